@@ -1,0 +1,4 @@
+pub mod Steps
+pub mod Uvarints
+pub mod Spellings
+pub mod Texts
