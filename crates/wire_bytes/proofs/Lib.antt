@@ -2,3 +2,4 @@ pub mod Steps
 pub mod Uvarints
 pub mod Spellings
 pub mod Texts
+pub mod Many

@@ -17,3 +17,10 @@ demand_ok false f x e = absurd cc
 pub chosen : {A : Type 0} (b : Bool) (x y z : A) → cond b x y ≡ z → ((b ≡ true) × (x ≡ z)) ⊎ ((b ≡ false) × (y ≡ z))
 chosen true x y z e = inl (refl, e)
 chosen false x y z e = inr (refl, e)
+
+abbrev pub done : {A : Type 0} → A → Result A ByteFault
+done x = Ok x
+
+-- two values read from the same are the same
+pub done_is : {A : Type 0} (x y : A) → done x ≡ done y → x ≡ y
+done_is x y e = cc

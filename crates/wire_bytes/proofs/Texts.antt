@@ -1,11 +1,10 @@
 -- What is found at an offset is spelled there, and what is spelled there is found.
-use Rattle.std.proofs.Common.{◌≡◌, ℕ, ◌<◌, ◌≤◌, Bool, false, ltb, ◌+◌, List, [], ◌++◌, length, take, drop, Option, Some, None, Result, Ok, Err, refl, sym, ap, subst, ◌∙◌, arith, inl, inr, get_or, Bor, append_assoc, ◌-◌, slice_range}
+use Rattle.std.proofs.Common.{◌≡◌, ℕ, ◌<◌, ◌≤◌, false, ltb, ◌+◌, List, ◌++◌, length, take, drop, Option, Some, None, Ok, Err, refl, sym, ap, subst, ◌∙◌, arith, inl, inr, Bor, append_assoc, ◌-◌, slice_range}
 use Rattle.std.specs.Prelude.{IfSome, IfNone}
 use Rattle.std.specs.Option.{option_copied}
 use Rattle.std.proofs.lemmas.Bool.{ltb-false, le-ltb, lt-ltb}
 use Rattle.std.proofs.lemmas.List.{drop_all, take-append-drop, take_at, drop_at, length-append, length-take, get_or-drop}
 use Rattle.wire_bytes.specs.declared.number.Unspelled.{Unspelled}
-use Rattle.wire_bytes.specs.declared.number.Unspelled.TheVariants.{Cut}
 use Rattle.wire_bytes.specs.Uvarint.{BeginsWith, Front, uvarint_in}
 use Rattle.wire_bytes.specs.Text.{Text, text_behind, text_in}
 use Rattle.wire_bytes.proofs.Steps.{chosen}

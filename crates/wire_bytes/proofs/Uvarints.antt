@@ -1,11 +1,10 @@
 -- Numbers: the running sum of a reader, and each way in which it ends.
-use Rattle.std.proofs.Common.{◌≡◌, ◌≢◌, subst, inl, inr, ℕ, zero, suc, ◌+◌, ◌-◌, ◌*◌, ◌^◌, ◌<◌, ◌≤◌, List, [], ◌∷◌, length, drop, take, get_or, Result, Ok, Err, refl, ap, ◌∙◌, sym, arith, eqb, cond, ltb, add-one, true, false}
+use Rattle.std.proofs.Common.{◌≡◌, ◌≢◌, subst, inl, inr, ℕ, zero, suc, ◌+◌, ◌-◌, ◌*◌, ◌^◌, ◌<◌, ◌≤◌, List, [], ◌∷◌, length, drop, take, get_or, Ok, Err, refl, ap, ◌∙◌, sym, arith, ltb, add-one, true}
 use Rattle.std.proofs.Math.Nat.{pow-le-pow_right, mul-le-mul_right}
 use Rattle.std.proofs.Math.Seq.{drop-cons}
 use Rattle.std.proofs.lemmas.Grind.{pow_more}
 use Rattle.std.proofs.lemmas.Bool.{le-ltb, lt-ltb, cases_lt}
 use Rattle.std.proofs.lemmas.List.{drop_all, length-drop, take_all}
-use Rattle.wire_bytes.specs.declared.number.Unspelled.{Unspelled}
 use Rattle.wire_bytes.specs.declared.number.Unspelled.TheVariants.{Cut, Wrong}
 use Rattle.wire_bytes.specs.Uvarint.{Front, behind, groups_in, of_64_bits, uvarint_in}
 

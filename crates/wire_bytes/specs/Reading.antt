@@ -63,3 +63,25 @@ many one next (suc n) k s = do
   first ← one k s
   others ← many one next n (next first.0) first.1
   Ok (first.0 ∷ others.0, others.1)
+
+-- What a reader of the code returned, seen by view, is what reading gives. Some of its errors name a fault, which is
+-- then the fault; the others, as want of memory, say nothing of the bytes.
+abbrev pub Fails : {Y : Type 0} → Option ByteFault → Result Y ByteFault → Type 0
+Fails (Some f) read = read ≡ Err f
+Fails None read = Unit {0}
+
+abbrev pub GivesBy : {E X Y : Type 0} → (E → Option ByteFault) → (X → Y) → Result X E → Result Y ByteFault → Type 0
+GivesBy fault_of view (Ok x) read = read ≡ Ok (view x)
+GivesBy fault_of view (Err e) read = Fails (fault_of e) read
+
+-- ---- what stands in some bytes, apart from how it is read
+
+-- things that stand one after the other, from the front of the bytes up to the rest
+abbrev pub InOrder : {X : Type 0} → (List ℕ → X → List ℕ → Type 0) → List ℕ → List X → List ℕ → Type 0
+InOrder Stands bytes [] rest = bytes ≡ rest
+InOrder Stands bytes (x ∷ xs) rest = (next : List ℕ) × Stands bytes x next × InOrder Stands next xs rest
+
+-- what each of them owes to what the one before it leaves
+abbrev pub Linked : {X K : Type 0} → (K → X → Type 0) → (X → K) → K → List X → Type 0
+Linked Fits next k [] = Unit {0}
+Linked Fits next k (x ∷ xs) = Fits k x × Linked Fits next (next x) xs

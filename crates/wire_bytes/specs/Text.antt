@@ -1,5 +1,5 @@
 -- Texts of a string section.
-use Rattle.std.specs.Prelude.{◌≡◌, ℕ, List, ◌++◌, length, take, drop, Option, Some, None, Result, Ok, Err, nat_lt, if◌then◌else◌}
+use Rattle.std.specs.Prelude.{◌≡◌, ℕ, List, ◌++◌, length, take, drop, Option, Some, None, Ok, Err, nat_lt, if◌then◌else◌}
 use Rattle.wire_bytes.specs.Uvarint.{BeginsWith, Front, uvarint_in}
 
 -- At the offset stand the text's length and then the text, both wholly inside the section.

@@ -1,4 +1,4 @@
-use Rattle.std.proofs.Common.{◌≡◌, ◌+◌, ◌<◌, get_or, sym, ◌∙◌, arith}
+use Rattle.std.proofs.Common.{◌+◌, ◌<◌, get_or, sym, arith}
 use Rattle.wire_bytes.proofs.Uvarints.{group_small, sum_small, next_small, goes_on, ends_whole, ends_zero, ends_cut, tenth_fits, ends_tenth, ends_tenth_wrong, rest_from}
 use Rattle.wire_bytes.proofs.number.sum_of_groups.Goals as goal
 

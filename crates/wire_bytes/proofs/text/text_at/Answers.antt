@@ -1,5 +1,4 @@
 use Rattle.std.proofs.Common.{arith}
-use Rattle.std.specs.Option.{option_copied}
 use Rattle.wire_bytes.proofs.Texts.{is_found, is_none}
 use Rattle.wire_bytes.proofs.text.text_at.Goals as goal
 
