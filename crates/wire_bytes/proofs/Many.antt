@@ -24,7 +24,7 @@ module _ {X K : Type 0} where
   goes_on one next front count i k s x after total lt read so_far =
       let left : count - i ≡ suc (count - (i + 1)) = omega arith in
       let step : with_front front (many one next (count - i) k s) ≡ with_front (front ++ x ∷ []) (many one next (count - (i + 1)) (next x) after)
-          = rw (left, read) (regroup front x (many one next (count - (i + 1)) (next x) after)) in
+      = rw (left, read) (regroup front x (many one next (count - (i + 1)) (next x) after)) in
       sym step ∙ so_far
 
   pub fails : (one : K → Spot → Result (X × Spot) ByteFault) (next : X → K) (front : List X) (count i : ℕ) (k : K) (s : Spot) (f : ByteFault) (total : Result (List X × Spot) ByteFault)
@@ -65,12 +65,15 @@ module _ {X K : Type 0} where
       let others = bind_ok (many one next n (next first.0.0) first.0.1) (λ o. Ok (first.0.0 ∷ o.0, o.1)) (xs, after) first.2 in
       let one_taken = takes k s first.0.0 first.0.1 fits first.1 in
       let rest_taken = many_takes one next Stands Fits takes n (next first.0.0) first.0.1 others.0.0 others.0.1 one_taken.0.fits others.1 in
-      subst (λ (p : List X × Spot). Takes (InOrder Stands) s p.0 p.1 × Linked Fits next k p.0 × (length p.0 ≡ suc n)) (done_is (first.0.0 ∷ others.0.0, others.0.1) (xs, after) others.2)
-      (record {
-         stands = (first.0.1.left, one_taken.0.stands, rest_taken.0.stands);
-         same_end = rest_taken.0.same_end ∙ one_taken.0.same_end;
-         fits = rest_taken.0.fits;
-       }, (one_taken.1, rest_taken.1), ap suc rest_taken.2)
+      subst (λ (p : List X × Spot). Takes (InOrder Stands) s p.0 p.1 × Linked Fits next k p.0 × (length p.0 ≡ suc n)) (done_is (first.0.0 ∷ others.0.0, others.0.1) (xs, after) others.2) (
+        record {
+          stands = (first.0.1.left, one_taken.0.stands, rest_taken.0.stands);
+          same_end = rest_taken.0.same_end ∙ one_taken.0.same_end;
+          fits = rest_taken.0.fits;
+        },
+        (one_taken.1, rest_taken.1),
+        ap suc rest_taken.2,
+      )
 
   pub many_again : (one : K → Spot → Result (X × Spot) ByteFault) (next : X → K) (Stands : List ℕ → X → List ℕ → Type 0) (Fits : K → X → Type 0)
       → ((k : K) (s : Spot) (x : X) (rest : List ℕ) → Stands s.left x rest → Fits k x → one k s ≡ Ok (x, onward s rest))

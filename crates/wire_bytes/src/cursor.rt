@@ -1,6 +1,6 @@
 //! A place in a part of a file, from which numbers and bytes are read.
 
-ghost use Rattle.std.specs.Prelude.{◌≡◌, ◌-◌, ◌≤◌, length, take, drop, IfOk, IfErr, IsTrue, ◌↔◌, []};
+ghost use Rattle.std.specs.Prelude.{◌≡◌, ◌-◌, ◌≤◌, length, take, drop, IfOk, IfErr, OnOk, ◌<◌, IsTrue, ◌↔◌, []};
 ghost use Rattle.wire_bytes.specs.Reading.{Reads, place, byte_at, bytes_at};
 ghost use Rattle.wire_bytes.specs.Uvarint.{BeginsWith, IsUvarintFault, uvarint_at};
 
@@ -72,6 +72,7 @@ impl<'a> Cursor<'a> {
     /// last with its top bit set.
     pub fn uvarint(&mut self) -> Result<u64, ByteFault>
         ensures found { IfOk result (λ v. BeginsWith self.old.left v self.new.left) }
+        ensures progress { OnOk result (length self.new.left < length self.old.left) }
         ensures fault { IfErr result (IsUvarintFault self.old) }
         ensures exact { Reads (λ v. v) result self.old self.new (uvarint_at self.old) }
     {
