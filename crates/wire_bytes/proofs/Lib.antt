@@ -3,3 +3,4 @@ pub mod Uvarints
 pub mod Spellings
 pub mod Texts
 pub mod Many
+pub mod Cursors

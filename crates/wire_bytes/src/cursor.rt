@@ -1,6 +1,6 @@
 //! A place in a part of a file, from which numbers and bytes are read.
 
-ghost use Rattle.std.specs.Prelude.{◌≡◌, ◌-◌, ◌≤◌, length, take, drop, IfOk, IfErr, OnOk, ◌<◌, IsTrue, ◌↔◌, []};
+ghost use Rattle.std.specs.Prelude.{◌≡◌, ◌-◌, ◌≤◌, length, take, drop, IfOk, IfErr, OnOk, ◌<◌, ◌+◌, IsTrue, ◌↔◌, []};
 ghost use Rattle.wire_bytes.specs.Reading.{Reads, place, byte_at, bytes_at};
 ghost use Rattle.wire_bytes.specs.Uvarint.{BeginsWith, IsUvarintFault, uvarint_at};
 
@@ -43,7 +43,8 @@ impl<'a> Cursor<'a> {
 
     /// Where the next byte stands in the file.
     pub fn place(&self) -> usize
-        ensures { result ≡ place self.now }
+        ensures place { result ≡ place self.now }
+        ensures before_the_end { result + length self.now.left ≡ self.now.end }
     {
         self.end - self.rest.len()
     }
