@@ -1,0 +1,7 @@
+pub mod FullFile
+pub mod Order
+pub mod Envelope
+pub mod FirstBreach
+pub mod Records
+pub mod Lookup
+pub mod Opening

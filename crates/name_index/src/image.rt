@@ -1,0 +1,87 @@
+//! An open full file.
+
+ghost use Rattle.std.specs.Prelude.{◌≡◌, ◌≤◌, length, vec_len, option_map, IfOk, IfErr, IfSome, IfNone};
+ghost use Rattle.wire_bytes.specs.Reading.{GivesBy};
+ghost use Rattle.name_index.specs.FullFile.{FullFile, content};
+ghost use Rattle.name_index.specs.Envelope.{Envelope};
+ghost use Rattle.name_index.specs.FirstBreach.{FirstBreach, full_file_of};
+ghost use Rattle.name_index.specs.Lookup.{heading_at, name_at};
+ghost use Rattle.name_index.specs.Records.{fault_of};
+ghost use Rattle.name_index.specs.Opening.{Opens, NamesBreach};
+
+use crate::fault::OpenFault;
+use crate::full::read_layout;
+use crate::lookup::{heading, name};
+use crate::records::{Layout, section_bytes};
+use std::alloc::Global;
+use std::marker::Model;
+
+/// A full file and its index. Contracts see the file's parts. It holds the bytes of the file once; names and paths are
+/// lent from them. An index of n names and p packages takes 12 bytes a name and 48 a package besides.
+#[derive(Debug, Drop)]
+pub struct Image {
+    bytes: Vec<u8>,
+    own: Vec<u8>,
+    layout: Layout,
+}
+
+impl Model for Image {
+    ghost use Rattle.name_index.specs.FullFile.{FullFile};
+    ghost use Rattle.name_index.specs.Records.{file_of, IsOpen};
+
+    ghost Value = { FullFile };
+
+    ghost view = { λ i. file_of i.own.items i.bytes.items i.layout };
+
+    ghost invariant = { λ i. IsOpen i.own.items i.bytes.items i.layout };
+}
+
+/// Opens a full file of the package path `path`, of format version 1 or 2. It goes over the index once, looks at no byte
+/// of the data section, and keeps the bytes.
+pub fn read_full_file(alloc: Global, bytes: Vec<u8>, path: &[u8]) -> Result<Image, OpenFault>
+    requires { length bytes.items ≤ 16777216 }
+    // The image is what stands in the bytes.
+    ensures found { IfOk result (λ image. Envelope path.now bytes.items image) }
+    // What stands in the bytes is found, unless memory runs out.
+    ensures only { (file : FullFile) → Envelope path.now bytes.items file → Opens result file }
+    // Which fault it is.
+    ensures fault { IfErr result (NamesBreach path.now bytes.items) }
+{
+    let layout = read_layout(alloc, bytes.as_slice(), path)?;
+    let own = Vec::from_slice(alloc, path)?;
+    Ok(Image { bytes, own, layout })
+}
+
+impl Image {
+    /// How many packages the index has.
+    pub fn package_count(&self) -> u32
+        ensures { result ≡ length self.now.packages }
+    {
+        self.layout.packages.as_slice().len() as u32
+    }
+
+    /// The path and the name of package `k` of the index, the file's own first.
+    pub fn package(&self, k: u32) -> Option<(&[u8], &[u8])>
+        ensures { option_map (λ x. (x.0.now, x.1.now)) result ≡ heading_at self.now.packages k }
+    {
+        heading(
+            self.strings(),
+            self.own.as_slice(),
+            self.layout.packages.as_slice(),
+            k,
+        )
+    }
+
+    /// Name `i` of package `k`, and where its declaration stands in the data section.
+    pub fn name_in(&self, k: u32, i: u32) -> Option<(&[u8], u64)>
+        ensures { option_map (λ x. (x.0.now, x.1)) result ≡ name_at self.now.packages k i }
+    {
+        name(self.strings(), self.layout.packages.as_slice(), k, i)
+    }
+
+    fn strings(&self) -> &[u8]
+        ensures { result.now ≡ content self.now.bytes self.now.strings }
+    {
+        section_bytes(self.bytes.as_slice(), self.layout.strings)
+    }
+}
