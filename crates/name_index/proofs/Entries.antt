@@ -1,7 +1,6 @@
 -- The names of a package: what is read stands there, and what stands there is read.
-use Rattle.std.proofs.Common.{◌≡◌, ℕ, ◌<◌, List, [], ◌∷◌, length, map, Option, Some, None, Bool, true, ltb, Result, Ok, Err, refl, sym, ap, subst, ◌∙◌, arith}
+use Rattle.std.proofs.Common.{◌≡◌, ℕ, List, length, map, Option, Some, None, ltb, Ok, refl, subst, ◌∙◌}
 use Rattle.std.proofs.lemmas.Bool.{ltb-true, lt-ltb}
-use Rattle.wire_bytes.specs.declared.fault.ByteFault.{ByteFault}
 use Rattle.wire_bytes.specs.declared.fault.ByteFault.TheVariants as faults
 use Rattle.wire_bytes.specs.Reading.{Spot, place, onward, ◌>>=◌, demand, or_fault, InOrder}
 use Rattle.wire_bytes.specs.Uvarint.{BeginsWith, uvarint_at}
@@ -13,7 +12,7 @@ use Rattle.wire_bytes.proofs.Many.{Takes, many_takes, many_again}
 use Rattle.wire_bytes.proofs.Cursors.{uvarint_at_takes, uvarint_at_again, or_fault_ok}
 use Rattle.name_index.specs.FullFile.{Entry}
 use Rattle.name_index.specs.Order.{rises, Rise}
-use Rattle.name_index.specs.Envelope.{TextOffset, IsEntry}
+use Rattle.name_index.specs.Envelope.{IsEntry}
 use Rattle.name_index.specs.FirstBreach.{text_offset_at, entry_at, entries_at}
 use Rattle.name_index.proofs.Orders.{Rising, linked_rise, rise_linked}
 
@@ -51,11 +50,11 @@ entry_takes strings size last s x after texts fits e =
     let made : Entry × Spot = (record { name = n.0.1; offset = o.0 }, o.1) in
     subst (λ (p : Entry × Spot). Takes (IsEntry strings size) s p.0 p.1 × Rising (λ e. e.name) last p.0) (done_is made (x, after) inside.2) (
       record {
-        stands = (n.1.left, (n.0.0, first.stands.0, first.stands.1), second.stands, ltb-true o.0 size (demand_ok _ _ inside.0 inside.1));
+        stands = (n.1.left, (n.0.0, first.stands.0, first.stands.1), second.stands, ltb-true o.0 size (demand_ok (ltb o.0 size) (faults.Range (place n.1) o.0) inside.0 inside.1));
         same_end = second.same_end ∙ first.same_end;
         fits = second.fits;
       },
-      demand_ok _ _ rising.0 rising.1,
+      demand_ok (rises last n.0.1) (faults.Order (place s)) rising.0 rising.1,
     )
 
 pub entry_again : (strings : List ℕ) (size : ℕ) (last : Option (List ℕ)) (s : Spot) (x : Entry) (rest : List ℕ) → IsEntry strings size s.left x rest → Rising (λ e. e.name) last x

@@ -1,8 +1,7 @@
 -- Whole files: what is read is an envelope, and an envelope is read.
-use Rattle.std.proofs.Common.{◌≡◌, ℕ, ◌+◌, ◌-◌, ◌<◌, ◌≤◌, List, [], ◌∷◌, ◌++◌, length, take, drop, map, Bool, true, false, ◌||◌, eqb, ltb, Result, Ok, Err, refl, sym, ap, subst, ◌∙◌, arith, ◌⊎◌, inl, inr, append_assoc, get_or}
-use Rattle.std.proofs.lemmas.Bool.{eqb-true, eq-eqb, le-ltb, cases_lt}
-use Rattle.std.proofs.lemmas.List.{nil_from_length, length-append, length-drop, length-take, drop_at, take-append-drop, get_or-take, get_or_past, append-nil}
-use Rattle.wire_bytes.specs.declared.fault.ByteFault.{ByteFault}
+use Rattle.std.proofs.Common.{◌≡◌, ℕ, ◌+◌, ◌-◌, ◌≤◌, List, [], ◌∷◌, ◌++◌, length, take, drop, Bool, true, false, ◌||◌, eqb, Ok, refl, sym, ap, subst, ◌∙◌, arith, ◌⊎◌, inl, inr, append_assoc}
+use Rattle.std.proofs.lemmas.Bool.{eqb-true, le-ltb, cases_lt}
+use Rattle.std.proofs.lemmas.List.{nil_from_length, length-append, length-drop, length-take, drop_at, take-append-drop, get_or-take, get_or_past}
 use Rattle.wire_bytes.specs.declared.fault.ByteFault.TheVariants as faults
 use Rattle.wire_bytes.specs.Reading.{Spot, place, onward, ◌>>=◌, demand, byte_at, bytes_at, InOrder}
 use Rattle.wire_bytes.specs.Uvarint.{BeginsWith, uvarint_at}
@@ -10,11 +9,11 @@ use Rattle.wire_bytes.proofs.Steps.{bind_ok, demand_ok, done_is}
 use Rattle.wire_bytes.proofs.Spellings.{IsBytes}
 use Rattle.wire_bytes.proofs.Texts.{IsBytes-drop}
 use Rattle.wire_bytes.proofs.Many.{Takes}
-use Rattle.wire_bytes.proofs.Cursors.{uvarint_at_takes, uvarint_at_again, byte_at_takes, byte_at_again, bytes_at_takes, bytes_at_again}
-use Rattle.name_index.specs.FullFile.{Section, content, Package, FullFile, named}
+use Rattle.wire_bytes.proofs.Cursors.{uvarint_at_takes, uvarint_at_again, byte_at_takes, byte_at_again, bytes_at_takes}
+use Rattle.name_index.specs.FullFile.{Section, content, FullFile, named}
 use Rattle.name_index.specs.Envelope.{Envelope, IsPackage}
 use Rattle.name_index.specs.FirstBreach.{Header, header_at, section_at, index_at, full_file_of}
-use Rattle.name_index.proofs.Packages.{IsIndex, index_takes, index_again}
+use Rattle.name_index.proofs.Packages.{index_takes, index_again}
 
 -- ---- what stands behind
 
@@ -80,7 +79,7 @@ header_takes s x after fits e =
     let t1 = uvarint_at_takes l.1 v.0 v.1 t0.fits version.1 in
     let t2 = uvarint_at_takes v.1 a.0 a.1 t1.fits strings.1 in
     let t3 = uvarint_at_takes a.1 b.0 b.1 t2.fits body.1 in
-    let letter_is : l.0 ≡ 105 = eqb-true l.0 105 (demand_ok (eqb l.0 105) _ full.0 full.1) in
+    let letter_is : l.0 ≡ 105 = eqb-true l.0 105 (demand_ok (eqb l.0 105) (faults.Tag (place s) l.0) full.0 full.1) in
     let made : Header × Spot = (record { version = v.0; strings = a.0; body = b.0 }, b.1) in
     subst (λ (y : Header × Spot). Takes IsHeader s y.0 y.1) (done_is made (x, after) body.2)
     (record {
@@ -90,7 +89,7 @@ header_takes s x after fits e =
         at_body_size = a.1.left;
         letter = t0.stands ∙ ap (λ (c : ℕ). c ∷ l.1.left) letter_is;
         version = t1.stands;
-        known = one_or_two v.0 (demand_ok (eqb v.0 1 || eqb v.0 2) _ known.0 known.1);
+        known = one_or_two v.0 (demand_ok (eqb v.0 1 || eqb v.0 2) (faults.Version v.0) known.0 known.1);
         strings_size = t2.stands;
         body_size = t3.stands;
       };
@@ -165,7 +164,7 @@ file_takes own bytes x fits e =
     let len2 : length s.1.left ≡ h.0.body + length b.1.left = omega (arith, ap length t2.stands, length-append t2.bytes b.1.left, t2.width) in
     let strings_at : s.0.at + length h.1.left ≡ length bytes = omega (arith, t1.at_is, t0.same_end, short1) in
     let body_at : b.0.at + length s.1.left ≡ length bytes = omega (arith, t2.at_is, t1.same_end, t0.same_end, short1, len1) in
-    let nothing : p.1.left ≡ [] = nil_from_length p.1.left (eqb-true (length p.1.left) 0 (demand_ok (eqb (length p.1.left) 0) _ ended.0 ended.1)) in
+    let nothing : p.1.left ≡ [] = nil_from_length p.1.left (eqb-true (length p.1.left) 0 (demand_ok (eqb (length p.1.left) 0) (faults.Trailing (place p.1)) ended.0 ended.1)) in
     let there : drop (b.0.at + b.0.len) bytes ≡ b.1.left = end_at bytes b.1.left (b.0.at + b.0.len) end3 (omega (arith, body_at, len2, t2.len_is)) in
     let made : FullFile = record { bytes = bytes; version = h.0.version; strings = s.0; body = b.0; packages = named own p.0 } in
     subst (λ (f : FullFile). Envelope own bytes f) (done_is made x ended.2)

@@ -6,3 +6,4 @@ pub mod Packages
 pub mod Files
 pub mod Answers
 pub mod Lookups
+pub mod Halves

@@ -1,5 +1,5 @@
 -- The loop over the packages, where a reader's error may be want of memory.
-use Rattle.std.proofs.Common.{◌≡◌, ℕ, ◌-◌, ◌<◌, List, Result, Ok, Err}
+use Rattle.std.proofs.Common.{◌≡◌, ℕ, ◌-◌, ◌<◌, List, Result}
 use Rattle.wire_bytes.specs.declared.fault.ByteFault.{ByteFault}
 use Rattle.wire_bytes.specs.Reading.{Spot, Fails, many}
 use Rattle.wire_bytes.proofs.Many.{with_front, fails}

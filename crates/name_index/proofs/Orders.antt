@@ -1,7 +1,6 @@
 -- Orders as rules between neighbours, and as facts of whole lists.
 use Rattle.std.proofs.lemmas.Bool.{eqb-true, eq-eqb}
-use Rattle.std.proofs.Common.{◌≡◌, ◌≢◌, ◌&&◌, subst, ℕ, List, [], ◌∷◌, length, map, Option, Some, None, Bool, true, false, not, eqb, IsTrue, Result, Ok, Err, refl, sym, ap, ◌∙◌, arith, nat_eq}
-use Rattle.std.specs.List.{AllByRecursion}
+use Rattle.std.proofs.Common.{◌≡◌, ◌≢◌, ◌&&◌, subst, ℕ, List, [], ◌∷◌, map, Option, Some, None, Bool, true, false, not, refl, sym, ap, ◌∙◌, nat_eq}
 use Rattle.std.specs.Cmp.Lexicographic.{slice_cmp, pointwise}
 use Rattle.std.specs.Ordering.{nat_cmp, is_lt}
 use Rattle.std.specs.declared.cmp.Ordering.{Ordering}

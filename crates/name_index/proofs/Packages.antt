@@ -1,11 +1,10 @@
 -- The packages of an index: what is read stands there, and what stands there is read.
-use Rattle.std.proofs.Common.{◌≡◌, ◌≢◌, ℕ, zero, suc, ◌<◌, List, [], ◌∷◌, length, map, Option, Some, None, Bool, true, not, ltb, eqb, nat_eq, Result, Ok, Err, refl, sym, ap, subst, ◌∙◌, arith}
+use Rattle.std.proofs.Common.{◌≡◌, ◌≢◌, ℕ, ◌<◌, List, [], ◌∷◌, length, map, Option, Some, None, not, ltb, eqb, nat_eq, Ok, refl, sym, subst, ◌∙◌, arith}
 use Rattle.std.specs.List.{AllByRecursion}
 use Rattle.std.specs.Cmp.Lexicographic.{slice_cmp, pointwise}
 use Rattle.std.specs.Ordering.{nat_cmp, is_lt}
 use Rattle.std.proofs.lemmas.Bool.{eqb-true, ltb-true, lt-ltb}
 use Rattle.std.proofs.lemmas.List.{nil_from_length}
-use Rattle.wire_bytes.specs.declared.fault.ByteFault.{ByteFault}
 use Rattle.wire_bytes.specs.declared.fault.ByteFault.TheVariants as faults
 use Rattle.wire_bytes.specs.Reading.{Spot, place, onward, ◌>>=◌, demand, InOrder, Linked}
 use Rattle.wire_bytes.specs.Uvarint.{BeginsWith, uvarint_at}
@@ -14,7 +13,7 @@ use Rattle.wire_bytes.proofs.Spellings.{IsBytes}
 use Rattle.wire_bytes.proofs.Many.{Takes, many_takes, many_again}
 use Rattle.wire_bytes.proofs.Cursors.{uvarint_at_takes, uvarint_at_again}
 use Rattle.name_index.specs.FullFile.{Package}
-use Rattle.name_index.specs.Order.{IsBelow, RiseFrom, Rise}
+use Rattle.name_index.specs.Order.{IsBelow, RiseFrom}
 use Rattle.name_index.specs.Envelope.{IsPackage, ArePaths}
 use Rattle.name_index.specs.FirstBreach.{text_offset_at, entries_at, path_rule, package_at, packages_at, index_at}
 use Rattle.name_index.proofs.Orders.{below_from_test, test_from_below, other_test, other_text}
@@ -29,10 +28,10 @@ abbrev pub PackageFits : List ℕ → Option (List ℕ) → Package → Type 0
 PackageFits own last p = PathFits own last p.path
 
 path_rule_ok : (own : List ℕ) (last : Option (List ℕ)) (at offset : ℕ) (path : List ℕ) (x : Unit {0}) → path_rule own last at offset path ≡ Ok x → PathFits own last path
-path_rule_ok own None at offset path x e = nil_from_length path (eqb-true (length path) 0 (demand_ok (eqb (length path) 0) _ x e))
+path_rule_ok own None at offset path x e = nil_from_length path (eqb-true (length path) 0 (demand_ok (eqb (length path) 0) (faults.Range at offset) x e))
 path_rule_ok own (Some last) at offset path x e =
     let rising = bind_ok (demand (is_lt (slice_cmp nat_cmp last path)) (faults.Order at)) (λ _. demand (not (pointwise nat_eq path own)) (faults.Range at offset)) x e in
-    (below_from_test last path (demand_ok (is_lt (slice_cmp nat_cmp last path)) _ rising.0 rising.1), other_text path own (demand_ok (not (pointwise nat_eq path own)) _ x rising.2))
+    (below_from_test last path (demand_ok (is_lt (slice_cmp nat_cmp last path)) (faults.Order at) rising.0 rising.1), other_text path own (demand_ok (not (pointwise nat_eq path own)) (faults.Range at offset) x rising.2))
 
 path_rule_again : (own : List ℕ) (last : Option (List ℕ)) (at offset : ℕ) (path : List ℕ) → PathFits own last path → path_rule own last at offset path ≡ Ok tt
 path_rule_again own None at offset path fits = rw fits refl
@@ -133,7 +132,7 @@ index_takes own strings size s xs after texts fits e =
     let some = bind_ok (demand (ltb 0 c.0) (faults.Range (place s) 0)) (λ _. packages_at own strings size c.0 c.1) (xs, after) count.2 in
     let first = uvarint_at_takes s c.0 c.1 fits count.1 in
     let taken = many_takes (package_at own strings size) (λ p. Some p.path) (IsPackage strings size) (PackageFits own) (λ k s x after fits e. package_takes own strings size k s x after texts fits e) c.0 None c.1 xs after first.fits some.2 in
-    let positive : 0 < c.0 = ltb-true 0 c.0 (demand_ok (ltb 0 c.0) _ some.0 some.1) in
+    let positive : 0 < c.0 = ltb-true 0 c.0 (demand_ok (ltb 0 c.0) (faults.Range (place s) 0) some.0 some.1) in
     record {
       stands = record {
         at_packages = c.1.left;

@@ -1,7 +1,7 @@
 -- What is asked of an index.
-use Rattle.std.specs.Prelude.{◌≡◌, ℕ, List, Option, Some, None, option_map, slice_get, map}
+use Rattle.std.specs.Prelude.{ℕ, List, Option, option_map, slice_get}
 use Rattle.std.specs.Option.{option_and_then}
-use Rattle.name_index.specs.FullFile.{Entry, Package, Listed, listed}
+use Rattle.name_index.specs.FullFile.{Package}
 
 -- the path and the name of package k
 abbrev pub heading_at : List Package → ℕ → Option (List ℕ × List ℕ)

@@ -6,6 +6,7 @@ mod full;
 mod image;
 mod lookup;
 mod records;
+mod search;
 
 pub use fault::OpenFault;
 pub use image::{Image, read_full_file};

@@ -1,4 +1,3 @@
-use Rattle.std.proofs.Common.{◌≡◌, sym}
 use Rattle.std.proofs.lemmas.Result.{err_from_is_err_and}
 use Rattle.name_index.proofs.Answers.{is_no_file, is_open, is_found, is_only}
 use Rattle.name_index.proofs.image.read_full_file.Goals as goal
