@@ -1,0 +1,12 @@
+pub mod Codes
+pub mod Numbering
+pub mod Basic
+pub mod BasicLaws
+pub mod TypeTag
+pub mod TypeTagLaws
+pub mod DeclTag
+pub mod DeclTagLaws
+pub mod Keyword
+pub mod KeywordLaws
+pub mod EntryTag
+pub mod EntryTagLaws
