@@ -1,7 +1,9 @@
 -- Whole files: what is read is an envelope, and an envelope is read.
-use Rattle.std.proofs.Common.{◌≡◌, ℕ, ◌+◌, ◌-◌, ◌≤◌, List, [], ◌∷◌, ◌++◌, length, take, drop, Bool, true, false, ◌||◌, eqb, Ok, refl, sym, ap, subst, ◌∙◌, arith, ◌⊎◌, inl, inr, append_assoc}
+use Rattle.std.proofs.Common.{◌≡◌, ℕ, zero, suc, ◌<◌, Result, Err, ◌+◌, ◌-◌, ◌≤◌, List, [], ◌∷◌, ◌++◌, length, take, drop, Bool, true, false, ◌||◌, eqb, Ok, refl, sym, ap, subst, ◌∙◌, arith, ◌⊎◌, inl, inr, append_assoc}
 use Rattle.std.proofs.lemmas.Bool.{eqb-true, le-ltb, cases_lt}
 use Rattle.std.proofs.lemmas.List.{nil_from_length, length-append, length-drop, length-take, drop_at, take-append-drop, get_or-take, get_or_past}
+use Rattle.std.specs.List.{AllByRecursion}
+use Rattle.wire_bytes.specs.declared.fault.ByteFault.{ByteFault}
 use Rattle.wire_bytes.specs.declared.fault.ByteFault.TheVariants as faults
 use Rattle.wire_bytes.specs.Reading.{Spot, place, onward, ◌>>=◌, demand, byte_at, bytes_at, InOrder}
 use Rattle.wire_bytes.specs.Uvarint.{BeginsWith, uvarint_at}
@@ -12,7 +14,7 @@ use Rattle.wire_bytes.proofs.Many.{Takes}
 use Rattle.wire_bytes.proofs.Cursors.{uvarint_at_takes, uvarint_at_again, byte_at_takes, byte_at_again, bytes_at_takes}
 use Rattle.name_index.specs.FullFile.{Section, content, FullFile, named}
 use Rattle.name_index.specs.Envelope.{Envelope, IsPackage}
-use Rattle.name_index.specs.FirstBreach.{Header, header_at, section_at, index_at, full_file_of}
+use Rattle.name_index.specs.FirstBreach.{FirstBreach, Header, header_at, section_at, index_at, full_file_of}
 use Rattle.name_index.proofs.Packages.{index_takes, index_again}
 
 -- ---- what stands behind
@@ -226,3 +228,30 @@ file_again own bytes x env =
 
 pub one_envelope : (own bytes : List ℕ) (a b : FullFile) → Envelope own bytes a → Envelope own bytes b → a ≡ b
 one_envelope own bytes a b first second = done_is a b (sym (file_again own bytes a first) ∙ file_again own bytes b second)
+
+abbrev failed : ByteFault → Result FullFile ByteFault
+failed f = Err f
+
+failed_is : (a b : ByteFault) → failed a ≡ failed b → a ≡ b
+failed_is a b e = cc
+
+pub one_breach : (own bytes : List ℕ) (a b : ByteFault) → FirstBreach own bytes a → FirstBreach own bytes b → a ≡ b
+one_breach own bytes a b first second = failed_is a b (sym first ∙ second)
+
+pub never_both : (own bytes : List ℕ) (file : FullFile) (f : ByteFault) → Envelope own bytes file → FirstBreach own bytes f → ⊥
+never_both own bytes file f env breach = clash (file_again own bytes file env) breach
+  where
+    clash : {r : Result FullFile ByteFault} → r ≡ Ok file → r ≡ Err f → ⊥
+    clash there failed = cc
+
+are_bytes : (bytes : List ℕ) → AllByRecursion (λ b. b < 256) bytes → IsBytes bytes
+are_bytes [] all i = omega arith
+are_bytes (b ∷ bytes) all zero = all.0
+are_bytes (b ∷ bytes) all (suc i) = are_bytes bytes all.1 i
+
+pub envelope_or_breach : (own bytes : List ℕ) → AllByRecursion (λ b. b < 256) bytes → ((file : FullFile) × Envelope own bytes file) ⊎ ((f : ByteFault) × FirstBreach own bytes f)
+envelope_or_breach own bytes all = decided (full_file_of own bytes) refl
+  where
+    decided : (r : Result FullFile ByteFault) → full_file_of own bytes ≡ r → ((file : FullFile) × Envelope own bytes file) ⊎ ((f : ByteFault) × FirstBreach own bytes f)
+    decided (Ok file) e = inl (file, file_takes own bytes file (are_bytes bytes all) e)
+    decided (Err f) e = inr (f, e)

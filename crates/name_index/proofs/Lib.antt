@@ -7,3 +7,6 @@ pub mod Files
 pub mod Answers
 pub mod Lookups
 pub mod Halves
+pub mod Listing
+pub mod Sorted
+pub mod Holders

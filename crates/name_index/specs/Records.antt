@@ -1,5 +1,5 @@
 -- What the records of an open file stand for.
-use Rattle.std.specs.Prelude.{◌≡◌, ℕ, ◌+◌, ◌^◌, ◌<◌, ◌≤◌, List, [], ◌∷◌, length, map, Option, Some, None, slice_range}
+use Rattle.std.specs.Prelude.{◌≡◌, ℕ, ◌+◌, ◌^◌, ◌<◌, ◌≤◌, List, [], ◌∷◌, length, map, Option, Some, None, slice_range, slice_get}
 use Rattle.std.specs.List.{AllByRecursion}
 use Rattle.wire_bytes.specs.declared.fault.ByteFault.{ByteFault}
 use Rattle.name_index.specs.declared.fault.OpenFault.{OpenFault}
@@ -13,6 +13,7 @@ use Rattle.name_index.specs.declared.records.Layout.{Layout}
 use Rattle.name_index.specs.FullFile.{Section, content, Entry, Package, FullFile, named}
 use Rattle.name_index.specs.Envelope.{Envelope}
 use Rattle.name_index.specs.FirstBreach.{Header}
+use Rattle.name_index.specs.Lookup.{IsSorted}
 
 -- the text at a place of the string section
 abbrev pub text_of : List ℕ → TextPlace → List ℕ
@@ -57,6 +58,10 @@ section_of s = record { at = s.at; len = s.len }
 abbrev pub packages_of : List ℕ → List ℕ → List PackageRecord → List Package
 packages_of own strings rs = named own (map (package_of strings) rs)
 
+-- their paths
+abbrev pub paths_of : List ℕ → List ℕ → List PackageRecord → List (List ℕ)
+paths_of own strings rs = map (λ p. p.path) (packages_of own strings rs)
+
 abbrev pub file_of : List ℕ → List ℕ → Layout → FullFile
 file_of own bytes l = record {
   bytes = bytes;
@@ -80,3 +85,17 @@ pub record IsOpen (own bytes : List ℕ) (l : Layout) : Type 0 where
   pub short : length bytes ≤ 16777216
   pub layout : IsLayout bytes l
   pub envelope : Envelope own bytes (file_of own bytes l)
+
+-- records in which names are searched for
+pub record IsSearchable (own strings : List ℕ) (rs : List PackageRecord) : Type 0 where
+  pub inside : AllByRecursion (IsPackageInside strings) rs
+  pub numbered : IsNumbered 0 rs
+  pub few : length rs < 2 ^ 32
+  pub few_names : name_count rs < 2 ^ 32
+  pub sorted : IsSorted own (packages_of own strings rs)
+
+-- package j is the last one before which at most k names are listed
+pub record IsHolder (rs : List PackageRecord) (k j : ℕ) : Type 0 where
+  pub within : j < length rs
+  pub begins : (r : PackageRecord) → slice_get rs j ≡ Some r → r.first ≤ k
+  pub last : (i : ℕ) (r : PackageRecord) → j < i → slice_get rs i ≡ Some r → k < r.first

@@ -1,17 +1,17 @@
 //! An open full file.
 
-ghost use Rattle.std.specs.Prelude.{◌≡◌, ◌≤◌, length, vec_len, option_map, IfOk, IfErr, IfSome, IfNone};
+ghost use Rattle.std.specs.Prelude.{◌≡◌, ◌≤◌, ℕ, length, vec_len, option_map, slice_get, IfOk, IfErr, IfSome, IfNone};
 ghost use Rattle.wire_bytes.specs.Reading.{GivesBy};
-ghost use Rattle.name_index.specs.FullFile.{FullFile, content};
+ghost use Rattle.name_index.specs.FullFile.{FullFile, content, listed};
 ghost use Rattle.name_index.specs.Envelope.{Envelope};
 ghost use Rattle.name_index.specs.FirstBreach.{FirstBreach, full_file_of};
-ghost use Rattle.name_index.specs.Lookup.{heading_at, name_at};
+ghost use Rattle.name_index.specs.Lookup.{heading_at, names_at, name_at, as_listed, IsListed};
 ghost use Rattle.name_index.specs.Records.{fault_of};
 ghost use Rattle.name_index.specs.Opening.{Opens, NamesBreach};
 
 use crate::fault::OpenFault;
 use crate::full::read_layout;
-use crate::lookup::{heading, name};
+use crate::lookup::{ListedRecord, entry, heading, look_up, name, names};
 use crate::records::{Layout, section_bytes};
 use std::alloc::Global;
 use std::marker::Model;
@@ -72,11 +72,61 @@ impl Image {
         )
     }
 
+    /// How many names package `k` lists; 0 where the index has no such package.
+    pub fn names_in(&self, k: u32) -> u32
+        ensures { result ≡ names_at self.now.packages k }
+    {
+        names(self.layout.packages.as_slice(), k)
+    }
+
     /// Name `i` of package `k`, and where its declaration stands in the data section.
     pub fn name_in(&self, k: u32, i: u32) -> Option<(&[u8], u64)>
         ensures { option_map (λ x. (x.0.now, x.1)) result ≡ name_at self.now.packages k i }
     {
         name(self.strings(), self.layout.packages.as_slice(), k, i)
+    }
+
+    /// Name `k` of the index, counted over all packages: its package's path, the name, and where its declaration stands
+    /// in the data section. The package is found by halves.
+    pub fn entry(&self, k: u32) -> Option<(&[u8], &[u8], u64)>
+        ensures { option_map (λ x. as_listed x.0.now x.1.now x.2) result ≡ slice_get (listed self.now.packages) k }
+    {
+        entry(
+            self.strings(),
+            self.own.as_slice(),
+            self.layout.packages.as_slice(),
+            k,
+        )
+    }
+
+    /// The number of a name, as `entry` counts, by the path of its package. Path and name are found by halves.
+    pub fn entry_of(&self, path: &[u8], name: &[u8]) -> Option<u32>
+        ensures found { IfSome result (λ k. (offset : ℕ) × IsListed self.now.packages k path.now name.now offset) }
+        ensures none { IfNone result ((k offset : ℕ) → IsListed self.now.packages k path.now name.now offset → ⊥) }
+    {
+        Some(self.look_up(path, name)?.number)
+    }
+
+    /// Where a name's declaration stands in the data section, by the path of its package. Path and name are found by
+    /// halves.
+    pub fn offset_of(&self, path: &[u8], name: &[u8]) -> Option<u64>
+        ensures found { IfSome result (λ offset. (k : ℕ) × IsListed self.now.packages k path.now name.now offset) }
+        ensures none { IfNone result ((k offset : ℕ) → IsListed self.now.packages k path.now name.now offset → ⊥) }
+    {
+        Some(u64::from(self.look_up(path, name)?.offset))
+    }
+
+    fn look_up(&self, path: &[u8], name: &[u8]) -> Option<ListedRecord>
+        ensures found { IfSome result (λ x. IsListed self.now.packages x.number path.now name.now x.offset) }
+        ensures none { IfNone result ((k offset : ℕ) → IsListed self.now.packages k path.now name.now offset → ⊥) }
+    {
+        look_up(
+            self.strings(),
+            self.own.as_slice(),
+            self.layout.packages.as_slice(),
+            path,
+            name,
+        )
     }
 
     fn strings(&self) -> &[u8]

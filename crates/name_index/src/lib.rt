@@ -4,9 +4,14 @@
 mod fault;
 mod full;
 mod image;
+mod laws;
 mod lookup;
 mod records;
 mod search;
 
 pub use fault::OpenFault;
 pub use image::{Image, read_full_file};
+pub use laws::{file_or_breach, listed_once};
+
+#[cfg(test)]
+mod tests;

@@ -1,9 +1,8 @@
 -- What single steps of a cursor take, and that they take it again.
-use Rattle.std.proofs.Common.{◌≡◌, ℕ, ◌<◌, ◌≤◌, Bool, true, false, ltb, List, [], ◌∷◌, ◌++◌, length, take, drop, Option, Some, None, Result, Ok, Err, refl, sym, ap, subst, ◌∙◌, arith, inl, inr, get_or}
+use Rattle.std.proofs.Common.{◌≡◌, ℕ, ◌≤◌, false, ltb, List, [], ◌∷◌, ◌++◌, length, take, drop, Option, Some, None, Ok, Err, refl, sym, ap, subst, ◌∙◌, arith, inl, inr}
 use Rattle.std.proofs.lemmas.Bool.{ltb-false, le-ltb}
 use Rattle.std.proofs.lemmas.List.{take-append-drop, length-take, length-append, take_at, drop_at}
 use Rattle.wire_bytes.specs.declared.fault.ByteFault.{ByteFault}
-use Rattle.wire_bytes.specs.declared.number.Unspelled.{Unspelled}
 use Rattle.wire_bytes.specs.declared.number.Unspelled.TheVariants.{Cut, Wrong}
 use Rattle.wire_bytes.specs.Reading.{Spot, onward, byte_at, byte_of, bytes_at, or_fault}
 use Rattle.wire_bytes.specs.Uvarint.{BeginsWith, Front, uvarint_in, uvarint_from, uvarint_at}

@@ -4,3 +4,9 @@ pub mod Spellings
 pub mod Texts
 pub mod Many
 pub mod Cursors
+pub mod PrefixCodes
+pub mod Spelled
+pub mod Sections
+pub mod Wholes
+pub mod WholeSpellings
+pub mod SpelledSizes

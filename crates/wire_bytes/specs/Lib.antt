@@ -1,3 +1,7 @@
 pub mod Reading
 pub mod Uvarint
 pub mod Text
+pub mod Begins
+pub mod Varint
+pub mod Section
+pub mod Whole

@@ -4,6 +4,10 @@ ghost use Rattle.std.specs.Prelude.{◌≡◌, ◌-◌, ◌≤◌, length, take,
 ghost use Rattle.wire_bytes.specs.Reading.{Reads, place, byte_at, bytes_at};
 ghost use Rattle.wire_bytes.specs.Uvarint.{BeginsWith, IsUvarintFault, uvarint_at};
 
+mod fork;
+mod signed;
+mod whole;
+
 use crate::fault::ByteFault;
 use crate::number::{Unspelled, leading_uvarint};
 use std::marker::Model;

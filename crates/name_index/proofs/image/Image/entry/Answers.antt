@@ -1,0 +1,8 @@
+use Rattle.std.proofs.Common.{List, ℕ}
+use Rattle.name_index.specs.FullFile.{content}
+use Rattle.name_index.specs.Records.{section_of, IsSearchable}
+use Rattle.name_index.proofs.Sorted.{searchable}
+use Rattle.name_index.proofs.image.Image.entry.Goals as goal
+
+pub entry-requires : goal.entry-requires
+entry-requires c = rw (c.as_slice.ensures.value, c.as_slice-2.ensures.value, c.strings.ensures, ← c.self.view_is) (searchable c.self.inside.own.items c.self.inside.bytes.items c.self.inside.layout c.self.invariant)

@@ -1,0 +1,5 @@
+use Rattle.name_index.proofs.Sorted.{one_number}
+use Rattle.name_index.proofs.laws.listed_once.Goals as goal
+
+pub returns : goal.returns
+returns c = one_number
