@@ -1,0 +1,79 @@
+-- Words have one reading.
+use Rattle.std.proofs.Common.{◌≤◌, ◌≡◌, ℕ, ◌+◌, ◌<◌, inl, inr, suc, List, [], ◌∷◌, ◌++◌, length, take, drop, refl, ap, arith}
+use Rattle.std.proofs.lemmas.Bool.{cases_lt, cases_order}
+use Rattle.std.proofs.lemmas.List.{take-append-drop}
+use Rattle.command_words.specs.Texts.{Word, Source, source_word, Lacks, IsSource}
+use Rattle.command_words.specs.Forms.{Request, list, IsForm, Begins, IsWrongWord, IsFirstWrong}
+
+-- a path ends at the first `=`, so it is the one that stands there
+one_split : (a b x y : List ℕ) → Lacks 61 a → Lacks 61 b → a ++ 61 ∷ x ≡ b ++ 61 ∷ y → (a ≡ b) × (x ≡ y)
+one_split [] [] x y la lb e = (refl, cc)
+one_split [] (c ∷ b) x y la lb e = absurd (lb 0 (omega arith) (cc))
+one_split (c ∷ a) [] x y la lb e = absurd (la 0 (omega arith) (cc))
+one_split (c ∷ a) (d ∷ b) x y la lb e =
+    let tails : a ++ 61 ∷ x ≡ b ++ 61 ∷ y = cc in
+    let heads : c ≡ d = cc in
+    let more = one_split a b x y (λ k h. la (suc k) (omega arith)) (λ k h. lb (suc k) (omega arith)) tails in
+    let front : a ≡ b = more.0 in
+    (cc, more.1)
+
+one_source : (a b : Source) → IsSource a → IsSource b → source_word a ≡ source_word b → a ≡ b
+one_source a b sa sb e =
+    let rest : a.path ++ 61 ∷ a.file ≡ b.path ++ 61 ∷ b.file = cc in
+    let parts = one_split a.path b.path a.file b.file sa.path.no_equals sb.path.no_equals rest in
+    λ i. record { path = parts.0 i; file = parts.1 i }
+
+pub one_request : (words : List Word) (a b : Request) → IsForm words a → IsForm words b → a ≡ b
+one_request words (list a) (list b) fa fb =
+    let ea = fa.0 in let eb = fb.0 in
+    let same : source_word a ≡ source_word b = cc in
+    ap list (one_source a b fa.1 fb.1 same)
+
+-- a form begins with each front of it
+begun : (words : List Word) (k : ℕ) (request : Request) → IsForm words request → Begins (take k words)
+begun words k request form = (drop k words, request, rw (take-append-drop k words) form)
+
+pub apart : (words : List Word) (k : ℕ) (request : Request) → IsWrongWord words k → IsForm words request → ⊥
+apart words k request wrong form =
+    elim (cases_lt (length words) k) as (λ _. ⊥) [
+      | inl h ↦ (wrong.lacking h).1 request form
+      | inr h ↦ wrong.there h (begun words k request form)
+    ]
+
+-- of two wrong words none comes before the other
+not_before : (words : List Word) (j k : ℕ) → IsWrongWord words j → IsWrongWord words k → j < k → ⊥
+not_before words j k earlier later below =
+    elim (cases_lt (length words) j) as (λ _. ⊥) [
+      | inl h ↦
+          let lacks : length words < k = omega arith in
+          let first : j ≡ length words + 1 = (earlier.lacking h).0 in
+          let second : k ≡ length words + 1 = (later.lacking lacks).0 in
+          omega arith
+      | inr h ↦ earlier.there h (later.before j below)
+    ]
+
+pub one_wrong_word : (words : List Word) (j k : ℕ) → IsWrongWord words j → IsWrongWord words k → j ≡ k
+one_wrong_word words j k wj wk =
+    elim (cases_order j k) as (λ _. j ≡ k) [
+      | inl e ↦ e
+      | inr h ↦ elim h as (λ _. j ≡ k) [ inl below ↦ absurd (not_before words j k wj wk below) | inr above ↦ absurd (not_before words k j wk wj above) ]
+    ]
+
+-- the words up to a wrong one are no more than it
+in_reach : (words : List Word) (k : ℕ) → IsWrongWord words k → k ≤ length words + 1
+in_reach words k wrong =
+    elim (cases_lt (length words) k) as (λ _. k ≤ length words + 1) [
+      | inl h ↦ let at : k ≡ length words + 1 = (wrong.lacking h).0 in omega arith
+      | inr h ↦ omega arith
+    ]
+
+pub first_of_wrong : (words : List Word) (k : ℕ) → IsWrongWord words k → IsFirstWrong words k
+first_of_wrong words k wrong = record { before = wrong.before; there = wrong.there; reached = in_reach words k wrong }
+
+-- words of a form are right, each and all
+pub first_of_form : (words : List Word) (n : ℕ) (request : Request) → IsForm words request → n ≡ length words + 1 → IsFirstWrong words n
+first_of_form words n request form is = record {
+  before = λ j _. begun words j request form;
+  there = λ h. absurd (omega arith);
+  reached = omega arith;
+}

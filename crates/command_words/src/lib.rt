@@ -1,0 +1,15 @@
+//! Reads the words of the command line: each command has one form, and words that are of no form have one wrong word.
+#![tactic(auto)]
+
+mod commands;
+mod laws;
+mod sources;
+mod texts;
+
+pub use commands::{Command, WrongWord, first_wrong_word, read_command};
+pub use laws::words_have_one_reading;
+pub use sources::SourceWord;
+pub use texts::{is_file, is_path};
+
+#[cfg(test)]
+mod tests;
