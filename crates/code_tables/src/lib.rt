@@ -7,6 +7,7 @@ mod constants;
 mod declarations;
 mod descriptors;
 mod entries;
+pub mod laws;
 mod ordinals;
 mod positions;
 mod predeclared;

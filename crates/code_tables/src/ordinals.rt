@@ -1,15 +1,19 @@
-ghost use Rattle.std.specs.Prelude.{◌≡◌, ◌≢◌, ◌<◌, ℕ, IfSome, IfNone, IsSome};
+ghost use Rattle.std.specs.Prelude.{◌≡◌, ◌<◌, ℕ, IfSome, IsSome};
 
 /// A plain enum whose values are the rows of a code table. Each value has a number of its own, its
 /// ordinal, and the ordinals are those below the count of the values.
 pub trait Coded: Copy {
+    // The ordinal.
     ghost number: { Self → ℕ };
 
+    // How many values there are.
     ghost count: { ℕ };
 
+    /// The value's place in the table, from 0.
     fn ordinal(self) -> usize
         ensures { result ≡ number self };
 
+    /// The value at a place of the table, if there is one.
     fn of_ordinal(n: usize) -> Option<Self>
         ensures numbered { IfSome result (λ value. number value ≡ n) }
         ensures every { n < count → IsSome result };

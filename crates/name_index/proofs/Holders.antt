@@ -1,21 +1,20 @@
 -- The records behind the names of an index.
-use Rattle.std.proofs.Common.{◌≡◌, ℕ, zero, suc, ◌+◌, ◌-◌, ◌<◌, ◌≤◌, leb, List, [], ◌∷◌, length, map, Bool, true, false, Option, Some, None, option_map, unwrap_or, slice_get, get_or, refl, sym, ap, subst, ◌∙◌, arith, inl, inr, add-one, nat_eq}
+use Rattle.std.proofs.Common.{◌≡◌, ℕ, zero, suc, ◌+◌, ◌-◌, ◌<◌, ◌≤◌, leb, List, [], ◌∷◌, length, map, true, false, Option, Some, None, option_map, unwrap_or, slice_get, get_or, refl, sym, ap, subst, ◌∙◌, arith, inl, inr, add-one, nat_eq}
 use Rattle.std.specs.Prelude.{IfNone}
-use Rattle.std.specs.List.{AllByRecursion, AllWithin}
+use Rattle.std.specs.List.{AllByRecursion}
 use Rattle.std.specs.List.Sorted.{IsNonDecreasingBy, IsPartitionPoint}
 use Rattle.std.proofs.lemmas.Bool.{cases_lt, leb-true, leb-false}
 use Rattle.std.proofs.lemmas.List.{length-map}
 use Rattle.std.proofs.lemmas.Option.{slice_get_within, get_or_from_slice_get}
-use Rattle.name_index.specs.declared.records.TextPlace.{TextPlace}
 use Rattle.name_index.specs.declared.records.EntryRecord.{EntryRecord}
 use Rattle.name_index.specs.declared.records.PackageRecord.{PackageRecord}
-use Rattle.name_index.specs.FullFile.{Entry, Package, Listed, named, listed}
+use Rattle.name_index.specs.FullFile.{Entry, Package, Listed, listed}
 use Rattle.name_index.specs.Order.{Rise}
-use Rattle.name_index.specs.Lookup.{heading_at, names_at, name_at, as_listed, IsListed, IsSorted}
+use Rattle.name_index.specs.Lookup.{heading_at, names_at, name_at, IsListed}
 use Rattle.name_index.specs.Records.{text_of, entry_of, package_of, packages_of, paths_of, name_count, IsNumbered, IsHolder, IsInside, IsPackageInside, IsSearchable}
 use Rattle.std.specs.Cmp.Lexicographic.{pointwise}
 use Rattle.name_index.proofs.Orders.{text_itself}
-use Rattle.name_index.proofs.Listing.{of_map, in_map, before, placed, Holder, holder, before_later, before-named}
+use Rattle.name_index.proofs.Listing.{of_map, in_map, before, placed, holder, before_later, before-named}
 use Rattle.name_index.proofs.Sorted.{all_at, path_once, holder_path, holder_name}
 
 -- ---- what a record knows

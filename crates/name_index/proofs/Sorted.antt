@@ -1,9 +1,9 @@
 -- An index in order: what follows from an envelope, and from the order.
-use Rattle.std.proofs.Common.{◌≡◌, ◌≢◌, ℕ, zero, suc, ◌+◌, List, [], ◌∷◌, map, Option, Some, slice_get, refl, sym, ap, subst, ◌∙◌, arith}
+use Rattle.std.proofs.Common.{◌≡◌, ◌≢◌, ℕ, zero, suc, List, [], ◌∷◌, map, Some, slice_get, refl, sym, ap, subst, ◌∙◌, arith}
 use Rattle.std.specs.List.{AllByRecursion}
 use Rattle.wire_bytes.specs.Reading.{InOrder}
 use Rattle.name_index.specs.declared.records.Layout.{Layout}
-use Rattle.name_index.specs.FullFile.{content, Entry, Package, FullFile, Listed, listed, named}
+use Rattle.name_index.specs.FullFile.{content, Package, FullFile, Listed, listed, named}
 use Rattle.name_index.specs.Order.{RiseFrom, Rise}
 use Rattle.name_index.specs.Envelope.{IsPackage, ArePaths, Envelope}
 use Rattle.name_index.specs.Lookup.{as_listed, IsListed, OwnFirst, IsSorted}

@@ -1,6 +1,5 @@
-use Rattle.std.proofs.Common.{arith, ap, refl, length, ◌≡◌, Some, slice_get, sym, Fits, w32, slice_index_or}
+use Rattle.std.proofs.Common.{arith, ap, refl, length}
 use Rattle.std.proofs.lemmas.Option.{slice_get_read}
-use Rattle.name_index.specs.declared.records.PackageRecord.{PackageRecord}
 use Rattle.name_index.proofs.Holders.{name_found, no_path, no_name, names_inside, names_rise, room, if_none}
 use Rattle.name_index.proofs.lookup.look_up.Goals as goal
 

@@ -1,4 +1,4 @@
-use Rattle.std.proofs.Common.{arith, ap, sym, refl, length, Fits, w32}
+use Rattle.std.proofs.Common.{arith, ap, sym, refl, length}
 use Rattle.std.proofs.lemmas.Option.{slice_get_read, slice_get_past}
 use Rattle.name_index.proofs.Holders.{some_of_all, count_here, count_nowhere}
 use Rattle.name_index.proofs.lookup.names.Goals as goal

@@ -1,6 +1,3 @@
-use Rattle.std.proofs.Common.{List, ℕ}
-use Rattle.name_index.specs.FullFile.{content}
-use Rattle.name_index.specs.Records.{section_of, IsSearchable}
 use Rattle.name_index.proofs.Sorted.{searchable}
 use Rattle.name_index.proofs.image.Image.look_up.Goals as goal
 

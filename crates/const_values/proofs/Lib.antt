@@ -1,0 +1,4 @@
+pub mod Words
+pub mod Shifts
+pub mod Admits
+pub mod Divisions

@@ -1,0 +1,5 @@
+pub mod Kinds
+pub mod Values
+pub mod Bitwise
+pub mod Exact
+pub mod Answers

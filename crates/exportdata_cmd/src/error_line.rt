@@ -1,0 +1,80 @@
+ghost use Rattle.std.specs.Prelude.{◌≡◌, ◌++◌, IfOk, OnOk};
+ghost use Rattle.exportdata_cmd.specs.Printed.{printed};
+
+use crate::exits::Status;
+use crate::printing::{put_fault, put_number, put_printed};
+use std::alloc::{AllocError, Global};
+use wire_bytes::ByteFault;
+
+/// The line that a command writes where it isn't carried out.
+#[derive(Debug, Drop, Clone, Copy)]
+pub enum ErrorLine<'a> {
+    /// The word of this number, from 1, is wrong.
+    WrongWord(usize),
+    /// There is no such file.
+    Missing(&'a str),
+    /// The file can't be read.
+    CannotRead(&'a str),
+    /// The bytes of the file with this label spell no file.
+    Damaged { label: &'a str, fault: ByteFault },
+    /// The file is too long.
+    LimitBytes,
+    /// Memory is wanting.
+    NoMemory,
+}
+
+impl ErrorLine<'_> {
+    ghost use Rattle.exportdata_cmd.specs.ErrorLines.{text_of, line_of, status_of};
+
+    /// The status that goes with the line.
+    pub fn status(self) -> Status
+        ensures { result ≡ status_of self.entry }
+    {
+        match self {
+            ErrorLine::WrongWord(_) => Status::Words,
+            ErrorLine::Missing(_) | ErrorLine::Damaged { .. } => Status::Refused,
+            ErrorLine::CannotRead(_) => Status::Files,
+            ErrorLine::LimitBytes => Status::Limit,
+            ErrorLine::NoMemory => Status::Memory,
+        }
+    }
+
+    /// The line, with its line feed.
+    pub fn line(self, alloc: Global) -> Result<Vec<u8>, AllocError>
+        ensures { IfOk result (λ line. line.items ≡ line_of self.entry) }
+    {
+        let mut line = Vec::new(alloc);
+        self.put_text(&mut line)?;
+        line.extend_from_slice(b"\n")?;
+        Ok(line)
+    }
+
+    // Adds the text of the line.
+    fn put_text(self, line: &mut Vec<u8>) -> Result<(), AllocError>
+        ensures { OnOk result (line.new.items ≡ line.old.items ++ text_of self.entry) }
+    {
+        match self {
+            ErrorLine::WrongWord(number) => {
+                put_number(line, b"word ", number as u64)?;
+                line.extend_from_slice(b" is wrong")
+            }
+            ErrorLine::Missing(file) => put_named(line, b"missing ", file),
+            ErrorLine::CannotRead(file) => put_named(line, b"cannot read ", file),
+            ErrorLine::Damaged { label, fault } => {
+                put_printed(line, label.as_bytes())?;
+                line.extend_from_slice(b": ")?;
+                put_fault(line, fault)
+            }
+            ErrorLine::LimitBytes => line.extend_from_slice(b"limit bytes"),
+            ErrorLine::NoMemory => line.extend_from_slice(b"no memory"),
+        }
+    }
+}
+
+// Adds some words and the name of a file.
+fn put_named(line: &mut Vec<u8>, words: &[u8], file: &str) -> Result<(), AllocError>
+    ensures { OnOk result (line.new.items ≡ line.old.items ++ (words.now ++ printed file.now)) }
+{
+    line.extend_from_slice(words)?;
+    put_printed(line, file.as_bytes())
+}

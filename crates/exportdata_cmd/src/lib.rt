@@ -1,0 +1,14 @@
+//! The command: it reads its words, carries them out over files and sinks, and answers with a status.
+#![tactic(auto)]
+
+mod command;
+mod error_line;
+mod exits;
+mod listing;
+mod opening;
+mod printing;
+mod putting;
+mod top;
+
+pub use exits::Status;
+pub use top::{refuse_words, run};

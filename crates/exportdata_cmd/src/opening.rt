@@ -1,0 +1,59 @@
+ghost use Rattle.std.specs.Prelude.{◌≡◌, ◌≤◌, IfOk, IfErr, List, ℕ};
+ghost use Rattle.name_index.specs.Envelope.{Envelope};
+ghost use Rattle.command_words.specs.Forms.{source_of};
+ghost use Rattle.command_words.specs.Texts.{source_word};
+ghost use Rattle.exportdata_cmd.specs.Causes.{HasBytes, IsCause};
+
+use crate::error_line::ErrorLine;
+use command_words::SourceWord;
+use name_index::{Image, OpenFault, read_full_file};
+use outside::{FetchFault, Files};
+use std::alloc::Global;
+
+/// The most bytes of a file that are taken in: 16 MiB.
+const FILE_LIMIT: usize = 16_777_216;
+
+// Fetches the file of a source.
+fn fetch<'a, F: Files>(
+    alloc: Global,
+    source: &SourceWord<'a>,
+    files: &mut F,
+) -> Result<Vec<u8>, ErrorLine<'a>>
+    ensures fetched { IfOk result (λ bytes. HasBytes (F.held files.old) source.now.file.now bytes.items) }
+    ensures cause { IfErr result (IsCause (source_of source.now) (F.held files.old) (F.faults files.old) (F.faults files.new)) }
+    ensures kept { F.held files.new ≡ F.held files.old }
+{
+    let mut bytes = Vec::new(alloc);
+    match files.fetch(source.file, FILE_LIMIT, &mut bytes) {
+        Ok(()) => Ok(bytes),
+        Err(FetchFault::Missing) => Err(ErrorLine::Missing(source.file)),
+        Err(FetchFault::TooLong) => Err(ErrorLine::LimitBytes),
+        Err(FetchFault::Failed) => Err(ErrorLine::CannotRead(source.file)),
+        Err(FetchFault::OutOfMemory) => Err(ErrorLine::NoMemory),
+    }
+}
+
+/// Opens the file of a source.
+pub fn open_source<'a, F: Files>(
+    alloc: Global,
+    source: &SourceWord<'a>,
+    files: &mut F,
+) -> Result<Image, ErrorLine<'a>>
+    requires { source.now.label.now ≡ source_word (source_of source.now) }
+    ensures opened { IfOk result (λ image. (bytes : List ℕ) × HasBytes (F.held files.old) source.now.file.now bytes × Envelope source.now.path.now bytes image) }
+    ensures cause { IfErr result (IsCause (source_of source.now) (F.held files.old) (F.faults files.old) (F.faults files.new)) }
+    ensures kept { F.held files.new ≡ F.held files.old }
+{
+    let bytes = match fetch(alloc, source, files) {
+        Ok(bytes) => bytes,
+        Err(error) => return Err(error),
+    };
+    match read_full_file(alloc, bytes, source.path.as_bytes()) {
+        Ok(image) => Ok(image),
+        Err(OpenFault::Bytes(fault)) => Err(ErrorLine::Damaged {
+            label: source.label,
+            fault,
+        }),
+        Err(OpenFault::OutOfMemory) => Err(ErrorLine::NoMemory),
+    }
+}
