@@ -1,0 +1,4 @@
+pub mod NodesExact
+pub mod Insertions
+pub mod Searches
+pub mod OnePackage

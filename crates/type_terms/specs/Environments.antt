@@ -1,0 +1,112 @@
+-- What environments give for names, and the rules that the declarations they give keep.
+use Rattle.std.specs.Prelude.{◌≡◌, ℕ, ◌<◌, ◌≤◌, ◌^◌, ◌⊎◌, ◌↔◌, List, [], Bool, true, IsTrue, Option, Some, None, Result, Ok, Err, length}
+use Rattle.std.specs.List.{All, Contains}
+use Rattle.code_tables.specs.declared.predeclared.Basic.{Basic}
+use Rattle.code_tables.specs.declared.predeclared.Basic.TheVariants.{Any}
+use Rattle.code_tables.specs.declared.positions.Pos.{Pos}
+use Rattle.code_tables.specs.declared.qualified.QName.{QName}
+use Rattle.code_tables.specs.Basic.{basic_code}
+use Rattle.wire_bytes.specs.declared.fault.ByteFault.{ByteFault}
+use Rattle.type_terms.specs.declared.descriptors.Node.{Node}
+use Rattle.type_terms.specs.declared.declarations.DeclNode.{DeclNode}
+use Rattle.type_terms.specs.declared.environments.EnvError.{EnvError}
+use Rattle.type_terms.specs.declared.environments.EnvError.TheVariants.{Unknown, Damaged, TableFull, Nodes, OutOfMemory}
+use Rattle.type_terms.specs.Shapes.{SigOf, array_of, func_of, interface_of, instance_of, union_of}
+use Rattle.type_terms.specs.Trees.{Text, Tree, predeclared, named, parameter, alias, pointer, slice, array, chan, map_type, func, struct, interface, instance, union, Level, level_of}
+use Rattle.type_terms.specs.Parts.{Within, MeetsBase}
+use Rattle.type_terms.specs.Denotation.{tree}
+use Rattle.type_terms.specs.Arenas.{Contents, AllBelow}
+use Rattle.type_terms.specs.Declarations.{Form, var_of, function_of, constant_of, defined_of, renamed_of, type_parameter_of, Decl, form_map, form_types, decl_form, decl_nodes}
+
+-- the declaration that a declaration over nodes denotes
+abbrev pub decl_of : List Node → DeclNode → Decl
+decl_of nodes node = form_map (λ x. x) (λ x. x) (tree nodes) (decl_form node)
+
+-- What stands behind a name: a declaration, or a fault with the types that were read whole before it.
+pub data Entry : Type 0 where
+  declared : Decl → Entry
+  damaged : ByteFault → List Tree → Entry
+
+-- A variadic signature has a parameter.
+abbrev pub HasLast : SigOf Pos Text Tree → Type 0
+HasLast sig = IsTrue sig.variadic → 0 < length sig.params
+
+-- what holds of each type that stands in a declaration, at its one level
+abbrev pub IsProperLevel : Level → Type 0
+IsProperLevel (array_of size type) = size < 2 ^ 63
+IsProperLevel (func_of home sig) = HasLast sig
+IsProperLevel (interface_of home embedded methods) = All (λ method. HasLast method.sig) methods
+IsProperLevel (instance_of base args) = MeetsBase (instance_of base args)
+IsProperLevel (union_of terms) = 0 < length terms
+IsProperLevel _ = Unit {0}
+
+-- at every level
+abbrev pub IsProper : Tree → Type 0
+IsProper type = (part : Tree) → Within type part → IsProperLevel (level_of part)
+
+abbrev pub IsTypeParameter : Tree → Type 0
+IsTypeParameter (parameter q) = Unit {0}
+IsTypeParameter _ = ⊥
+
+abbrev pub IsInterface : Tree → Type 0
+IsInterface (interface home embedded methods) = Unit {0}
+IsInterface _ = ⊥
+
+-- A predeclared type up to string, unsafe.Pointer or any, or a literal.
+abbrev pub IsUnderlying : Tree → Type 0
+IsUnderlying (predeclared basic) = (basic_code basic ≤ 16) ⊎ ((basic_code basic ≡ 27) ⊎ (basic_code basic ≡ 31))
+IsUnderlying (named q) = ⊥
+IsUnderlying (parameter q) = ⊥
+IsUnderlying (alias q) = ⊥
+IsUnderlying (instance base args) = ⊥
+IsUnderlying (union terms) = ⊥
+IsUnderlying _ = Unit {0}
+
+-- Neither any nor an interface, which have no methods but their own.
+abbrev pub MayHaveMethods : Tree → Type 0
+MayHaveMethods (interface home embedded methods) = ⊥
+MayHaveMethods (predeclared basic) = basic_code basic ≡ 31 → ⊥
+MayHaveMethods _ = Unit {0}
+
+-- what holds of a declaration's own parts
+abbrev pub IsProperForm : Decl → Type 0
+IsProperForm (var_of pos type) = Unit {0}
+IsProperForm (function_of pos tparams sig) = All IsTypeParameter tparams × HasLast sig
+IsProperForm (constant_of pos type value) = Unit {0}
+IsProperForm (defined_of pos tparams underlying methods) = All IsTypeParameter tparams × IsUnderlying underlying × ((methods ≡ []) ⊎ MayHaveMethods underlying) × All (λ method. HasLast method.sig) methods
+IsProperForm (renamed_of pos tparams type) = All IsTypeParameter tparams
+IsProperForm (type_parameter_of pos implicit constraint) = IsTrue implicit → IsInterface constraint
+
+pub record IsProperDecl (decl : Decl) : Type 0 where
+  pub form : IsProperForm decl
+  pub types : All IsProper (form_types decl)
+
+-- the types that a call may add to an arena for an entry, with all that stands in them
+abbrev pub entry_types : Option Entry → List Tree
+entry_types (Some (declared decl)) = form_types decl
+entry_types (Some (damaged fault read)) = read
+entry_types None = []
+
+abbrev pub StandsIn : List Tree → Tree → Type 0
+StandsIn whole type = (outer : Tree) × Contains whole outer × Within outer type
+
+-- what the nodes denote that came after the old ones stands in these types
+abbrev pub AddsOnly : List Tree → Contents → Contents → Type 0
+AddsOnly whole old new = (number : ℕ) → length old.nodes ≤ number → number < length new.nodes → StandsIn whole (tree new.nodes number)
+
+-- What an answer for the name q says of the entry, of the arena and of the flag at exit. Each answer comes only so, and they
+-- exclude each other; OutOfMemory is free.
+abbrev pub Answers : Option Entry → QName → Contents → Option Bool → Result DeclNode EnvError → Type 0
+Answers entry q arena full (Ok node) = (entry ≡ Some (declared (decl_of arena.nodes node))) × AllBelow (length arena.nodes) (decl_nodes node)
+Answers entry q arena full (Err (Unknown name)) = (entry ≡ None) × (name ≡ q)
+Answers entry q arena full (Err (Damaged name fault)) = ((read : List Tree) × (entry ≡ Some (damaged fault read))) × (name ≡ q)
+Answers entry q arena full (Err TableFull) = full ≡ Some true
+Answers entry q arena full (Err Nodes) = length arena.nodes ≡ arena.limit
+Answers entry q arena full (Err OutOfMemory) = Unit {0}
+
+-- No other name than q came to the names asked, and none was lost.
+abbrev pub AsksOnly : Option (List QName) → QName → Option (List QName) → Type 0
+AsksOnly (Some old) q (Some new) = ((name : QName) → Contains new name → Contains old name ⊎ (name ≡ q)) × ((name : QName) → Contains old name → Contains new name)
+AsksOnly None q None = Unit {0}
+AsksOnly (Some old) q None = ⊥
+AsksOnly None q (Some new) = ⊥

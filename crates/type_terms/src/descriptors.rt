@@ -1,0 +1,28 @@
+use crate::lists::{Fields, Methods, Nodes, Terms};
+use crate::literals::{Dir, Sig};
+use crate::node_numbers::NodeId;
+use code_tables::{Basic, Bytes, QName};
+
+/// A type, whose parts are nodes of the same arena. Defined types, aliases and type parameters hold their names
+/// alone. The first text of a function, a struct and an interface is the path of the package in which the literal
+/// stands. A node takes 88 bytes, beside what its texts and lists hold.
+#[derive(Clone, Debug, Drop, PartialEq, Eq, Hash)]
+pub enum Node {
+    Predeclared(Basic),
+    Named(QName),
+    Param(QName),
+    AliasName(QName),
+    Pointer(NodeId),
+    Slice(NodeId),
+    Array(u64, NodeId),
+    Chan(Dir, NodeId),
+    /// The key's type, and the element's.
+    MapOf(NodeId, NodeId),
+    FuncOf(Bytes, Sig),
+    StructOf(Bytes, Fields),
+    /// The embedded types, and the methods.
+    Iface(Bytes, Nodes, Methods),
+    /// The generic type, a `Named` or an `AliasName`, and at least one argument.
+    Instance(NodeId, Nodes),
+    Union(Terms),
+}

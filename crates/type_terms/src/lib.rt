@@ -1,0 +1,32 @@
+//! The types, declarations and packages of Go as values: an arena of shared descriptors, whose nodes denote finite trees
+//! over qualified names, and the environments that give the declarations behind names.
+#![tactic(auto)]
+
+mod declarations;
+mod descriptors;
+mod environments;
+mod exported;
+mod laws;
+mod lists;
+mod literals;
+mod node_numbers;
+mod overlay;
+mod packages;
+mod shared_nodes;
+
+pub use declarations::{DeclNode, Method, Package};
+pub use descriptors::Node;
+pub use environments::{Env, EnvError, NoDeps};
+pub use exported::is_exported;
+pub use laws::{
+    equal_trees_have_equal_numbers, nodes_keep_their_trees, parts_are_smaller, reach_is_idempotent,
+    reach_is_least, references_follow_the_parts,
+};
+pub use lists::{Fields, MethodList, Methods, Nodes, Params, Sequence, Terms};
+pub use literals::{Dir, Field, IMethod, Origin, ParamNode, Sig, Term};
+pub use node_numbers::NodeId;
+pub use overlay::Over;
+pub use shared_nodes::{Arena, ArenaError};
+
+#[cfg(test)]
+mod tests;

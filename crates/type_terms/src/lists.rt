@@ -1,0 +1,157 @@
+ghost use Rattle.std.specs.Prelude.{◌≡◌, ℕ, List, nat_eq};
+ghost use Rattle.std.specs.Coded.{coded_list};
+ghost use Rattle.std.specs.List.{AllZip};
+ghost use Rattle.std.specs.Cmp.Lexicographic.{pointwise};
+ghost use Rattle.std.specs.Cmp.Rules.{comparing, hashing};
+ghost use Rattle.std.specs.Hash as fed;
+ghost use Rattle.std.proofs.Common.{rules};
+
+use crate::declarations::Method;
+use crate::literals::{Field, IMethod, ParamNode, Term};
+use crate::node_numbers::NodeId;
+use smallvec::SmallVec;
+use std::alloc::AllocError;
+use std::hash::{Hash, Hasher};
+use std::marker::Model;
+
+/// A list that doesn't change. A contract sees the list of the items. The empty one takes no memory.
+#[derive(Debug, Drop)]
+pub struct Sequence<T> {
+    vector: Vec<T>,
+}
+
+pub type Fields = Sequence<Field>;
+
+pub type Methods = Sequence<IMethod>;
+
+pub type MethodList = Sequence<Method>;
+
+pub type Params = Sequence<ParamNode>;
+
+pub type Terms = Sequence<Term>;
+
+impl<T> Model for Sequence<T> {
+    ghost Value = { List T };
+
+    ghost coded = { coded_list T.code };
+
+    ghost view = { λ sequence. sequence.vector.items };
+}
+
+impl<T> Sequence<T> {
+    /// The list of these items. Takes no memory.
+    pub fn from_items(items: Vec<T>) -> Sequence<T>
+        ensures { result ≡ items.items }
+    {
+        Sequence { vector: items }
+    }
+
+    /// Lends the items. Takes no memory.
+    pub fn items(&self) -> &[T]
+        ensures { result.now ≡ self.now }
+    {
+        self.vector.as_slice()
+    }
+}
+
+impl<T: PartialEq> PartialEq for Sequence<T> {
+    ghost eq = { pointwise T.eq };
+
+    ghost laws = { Prim.search (comparing, rules) };
+
+    fn eq(&self, other: &Sequence<T>) -> bool {
+        self.vector == other.vector
+    }
+}
+
+impl<T: Eq> Eq for Sequence<T> {
+    ghost laws = { Prim.search (comparing, rules) };
+}
+
+impl<T: Hash> Hash for Sequence<T> {
+    ghost use Rattle.std.specs.Hash as fed;
+    ghost use Rattle.std.specs.Hash.{items_Alike};
+
+    ghost hash_input = { fed.slice T.hash_input };
+
+    ghost respects_eq = { (items_Alike (record { fed = T.respects_eq })).fed };
+
+    fn hash<H: Hasher>(&self, state: &mut H) {
+        self.vector.hash(state);
+    }
+}
+
+impl<T: Clone> Clone for Sequence<T> {
+    ghost is_clone = { AllZip T.is_clone };
+
+    fn clone(&self) -> Result<Sequence<T>, AllocError> {
+        Ok(Sequence {
+            vector: self.vector.clone()?,
+        })
+    }
+}
+
+/// A list of nodes that doesn't change, most often a short one: up to four stand in the value itself. A contract
+/// sees the list of the nodes' numbers.
+#[derive(Debug, Drop)]
+pub struct Nodes {
+    numbers: SmallVec<NodeId, 4>,
+}
+
+impl Model for Nodes {
+    ghost Value = { List ℕ };
+
+    ghost view = { λ nodes. nodes.numbers.items };
+}
+
+impl Nodes {
+    /// The list of these nodes. Takes no memory.
+    pub fn from_items(items: Vec<NodeId>) -> Nodes
+        ensures { result ≡ items.items }
+    {
+        Nodes {
+            numbers: SmallVec::from(items),
+        }
+    }
+
+    /// Lends the nodes. Takes no memory.
+    pub fn items(&self) -> &[NodeId]
+        ensures { result.now ≡ self.now }
+    {
+        self.numbers.as_slice()
+    }
+}
+
+impl PartialEq for Nodes {
+    ghost eq = { pointwise nat_eq };
+
+    ghost laws = { Prim.search (comparing, rules) };
+
+    fn eq(&self, other: &Nodes) -> bool {
+        self.items() == other.items()
+    }
+}
+
+impl Eq for Nodes {
+    ghost laws = { Prim.search (comparing, rules) };
+}
+
+impl Hash for Nodes {
+    ghost hash_input = { fed.slice fed.u32 };
+
+    ghost respects_eq = { Prim.search (hashing, rules) };
+
+    fn hash<H: Hasher>(&self, state: &mut H) {
+        self.items().hash(state);
+    }
+}
+
+impl Clone for Nodes {
+    ghost is_clone = { λ nodes copy. copy ≡ nodes };
+
+    fn clone(&self) -> Result<Nodes, AllocError> {
+        Ok(Nodes {
+            numbers: SmallVec::from_slice(*self.numbers.allocator(), self.items())?,
+        })
+    }
+}
