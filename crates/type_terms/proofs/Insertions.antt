@@ -1,8 +1,8 @@
 -- What an insertion does to the nodes of an arena.
-use Rattle.std.proofs.Common.{◌≡◌, ◌≢◌, ℕ, ◌+◌, ◌<◌, ◌≤◌, Bool, true, false, cond, ◌||◌, true≢false, List, [], ◌∷◌, ◌++◌, length, Some, None, refl, ap, sym, ◌∙◌, subst, arith, suc, zero, length-append}
+use Rattle.std.proofs.Common.{◌≡◌, ℕ, ◌<◌, ◌≤◌, Bool, true, false, ◌||◌, true≢false, List, [], ◌∷◌, ◌++◌, length, Some, refl, ap, sym, ◌∙◌, subst, arith, suc, zero, length-append}
 use Rattle.std.proofs.Common.{inl, inr, ◌⊎◌}
 use Rattle.std.proofs.Math.Nat.{eq-or-lt_of_le}
-use Rattle.std.specs.Prelude.{slice_get, if◌then◌else◌}
+use Rattle.std.specs.Prelude.{if◌then◌else◌}
 use Rattle.std.specs.List.{list_any, position}
 use Rattle.std.proofs.lemmas.List.Quantifiers.{position-Some}
 use Rattle.std.proofs.lemmas.Option.{slice_get-get_or}
@@ -12,7 +12,7 @@ use Rattle.type_terms.specs.declared.descriptors.Node.{Node}
 use Rattle.type_terms.specs.contracts.descriptors.NodePartialEq.TheImpl as node_eq
 use Rattle.type_terms.specs.contracts.descriptors.NodeEq.TheImpl.Laws.{laws-law}
 use Rattle.type_terms.specs.Shapes.{retype}
-use Rattle.type_terms.specs.Trees.{Tree, Level, tree_of, level_of}
+use Rattle.type_terms.specs.Trees.{tree_of, level_of}
 use Rattle.type_terms.specs.Parts.{MeetsBase}
 use Rattle.type_terms.specs.NodeShapes.{node_shape, children}
 use Rattle.type_terms.specs.Denotation.{tree}

@@ -1,14 +1,12 @@
 -- `==` holds of equal nodes alone.
-use Rattle.std.proofs.Common.{◌≡◌, ℕ, Bool, List, [], ◌∷◌, true, false, ◌&&◌, refl, ap, rules}
+use Rattle.std.proofs.Common.{◌≡◌, Bool, List, [], ◌∷◌, true, ◌&&◌, refl, ap, rules}
 use Rattle.std.specs.Prelude.{nat_eq}
-use Rattle.std.specs.Cmp.{booleans_Decides, IsEquivalence}
+use Rattle.std.specs.Cmp.{booleans_Decides}
 use Rattle.std.specs.Cmp.Lexicographic.{pointwise}
 use Rattle.std.proofs.lemmas.Bool.{and_parts, eqb-true}
 use denote.Enum.Bare.{same_true}
 use Rattle.code_tables.proofs.Exact.{exact_bytes, exact_qname, exact_pos, exact_basic}
-use Rattle.code_tables.specs.contracts.qualified.QNamePartialEq.TheImpl as qname_eq
 use Rattle.code_tables.specs.contracts.positions.PosPartialEq.TheImpl as pos_eq
-use Rattle.code_tables.specs.contracts.predeclared.BasicPartialEq.TheImpl as basic_eq
 use Rattle.type_terms.specs.declared.literals.Dir.{Dir}
 use Rattle.type_terms.specs.declared.literals.Origin.{Origin}
 use Rattle.type_terms.specs.declared.literals.ParamNode.{ParamNode}

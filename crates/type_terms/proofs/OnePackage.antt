@@ -1,7 +1,7 @@
 -- A package with one declaration stands.
-use Rattle.std.proofs.Common.{◌≡◌, ℕ, ◌<◌, Bool, true, false, cond, List, [], ◌∷◌, length, Option, Some, None, refl, sym, ap, subst, arith, suc, zero}
-use Rattle.std.specs.Prelude.{nat_eq, slice_get}
-use Rattle.std.specs.List.{Contains, All}
+use Rattle.std.proofs.Common.{◌≡◌, Bool, true, false, cond, List, [], ◌∷◌, length, Some, None, sym, subst, arith, suc, zero}
+use Rattle.std.specs.Prelude.{nat_eq}
+use Rattle.std.specs.List.{Contains}
 use Rattle.std.specs.Cmp.Lexicographic.{pointwise}
 use Rattle.std.proofs.lemmas.List.Elements.{All-nil, All-cons}
 use Rattle.code_tables.specs.declared.predeclared.Basic.{Basic}
@@ -11,7 +11,7 @@ use Rattle.type_terms.specs.declared.declarations.DeclNode.{DeclNode}
 use Rattle.type_terms.specs.Trees.{Text, Tree, predeclared, level_of}
 use Rattle.type_terms.specs.Parts.{Within, itself, inside, parts}
 use Rattle.type_terms.specs.Arenas.{AllBelow}
-use Rattle.type_terms.specs.Declarations.{Form, var_of, Decl, decl_nodes}
+use Rattle.type_terms.specs.Declarations.{var_of, decl_nodes}
 use Rattle.type_terms.specs.Environments.{decl_of, IsProper, IsProperLevel, IsProperDecl}
 use Rattle.type_terms.specs.Packages.{Named, IsRising, package_decl, PackageStands}
 

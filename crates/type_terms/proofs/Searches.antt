@@ -1,5 +1,5 @@
 -- A search by halves among declarations that rise by name.
-use Rattle.std.proofs.Common.{◌≡◌, ℕ, ◌<◌, ◌≤◌, ◌+◌, Bool, true, false, cond, true≢false, List, [], ◌∷◌, length, Option, Some, None, refl, ap, sym, ◌∙◌, subst, arith, suc, zero, inl, inr, ◌⊎◌}
+use Rattle.std.proofs.Common.{◌≡◌, ℕ, ◌<◌, ◌≤◌, ◌+◌, Bool, true, false, cond, List, [], ◌∷◌, Some, None, refl, ap, sym, ◌∙◌, arith, suc, zero, inl, inr, ◌⊎◌}
 use Rattle.std.specs.Prelude.{nat_eq, slice_get}
 use Rattle.std.specs.declared.cmp.Ordering.{Ordering}
 use Rattle.std.specs.declared.cmp.Ordering.TheVariants.{Less, Equal, Greater}
@@ -9,7 +9,6 @@ use Rattle.std.proofs.lemmas.Cmp.{nat_list_cmp_total, tied_itself}
 use Rattle.std.proofs.Math.Nat.{eq-or-lt_of_le}
 use Rattle.std.specs.Map.{lookup}
 use Rattle.code_tables.proofs.Exact.{exact_bytes}
-use Rattle.type_terms.specs.declared.declarations.DeclNode.{DeclNode}
 use Rattle.type_terms.specs.Trees.{Text}
 use Rattle.type_terms.specs.Packages.{Named, IsRising, package_decl}
 

@@ -1,21 +1,19 @@
 -- What holds of the trees of nodes.
-use Rattle.std.proofs.Common.{◌≡◌, ℕ, ◌+◌, ◌<◌, ◌≤◌, List, [], ◌∷◌, ◌++◌, map, length, get_or, Some, refl, ap, sym, ◌∙◌, subst, arith, suc, zero, append_assoc, length-append}
+use Rattle.std.proofs.Common.{◌≡◌, ℕ, ◌+◌, ◌<◌, List, [], ◌∷◌, ◌++◌, length, Some, refl, ap, sym, ◌∙◌, arith, suc, zero, length-append}
 use Rattle.std.specs.Prelude.{slice_get}
 use Rattle.std.specs.List.{AllByRecursion}
 use Rattle.std.proofs.Math.ListN.{get_or-append}
 use Rattle.std.proofs.Math.Seq.{get_or-append_seam}
-use Rattle.std.proofs.lemmas.Option.{slice_get_within, slice_get-get_or}
 use Rattle.code_tables.specs.declared.predeclared.Basic.TheVariants.{Bool as bool_type}
 use Rattle.type_terms.specs.declared.descriptors.Node.{Node}
-use Rattle.type_terms.specs.Shapes.{shape_types, retype}
-use Rattle.type_terms.specs.Trees.{Tree, predeclared, tree_of, level_of}
-use Rattle.type_terms.specs.Parts.{parts}
+use Rattle.type_terms.specs.Shapes.{retype}
+use Rattle.type_terms.specs.Trees.{Tree, predeclared, tree_of}
 use Rattle.type_terms.specs.NodeShapes.{node_shape, children}
 use Rattle.type_terms.specs.Denotation.{tree_at, node_tree, trees_after, tree}
 use Rattle.type_terms.specs.Arenas.{IsNode, AllBelow, IsArena}
-use Rattle.type_terms.specs.ShapeLaws.{retype_agrees, shape_types_map}
+use Rattle.type_terms.specs.ShapeLaws.{retype_agrees}
 use Rattle.type_terms.specs.ShapesTold.{retype_told}
-use Rattle.type_terms.specs.TreeLevels.{level_told, level_of-tree_of}
+use Rattle.type_terms.specs.TreeLevels.{level_told}
 use Rattle.type_terms.specs.NodesBack.{node_told}
 
 after_append : (below : List Tree) (xs ys : List Node) → trees_after below (xs ++ ys) ≡ trees_after (trees_after below xs) ys

@@ -1,7 +1,7 @@
 -- What holds of the entries of environments, and of a package's.
-use Rattle.std.proofs.Common.{◌≡◌, ℕ, ◌<◌, ◌≤◌, ◌+◌, Bool, true, false, cond, ◌||◌, List, [], ◌∷◌, ◌++◌, map, length, Option, Some, None, refl, ap, sym, ◌∙◌, subst, arith, length-append, suc, zero}
-use Rattle.std.specs.Prelude.{nat_eq, option_map, slice_index_or}
-use Rattle.std.specs.List.{flat_map, All, AllByRecursion, Contains}
+use Rattle.std.proofs.Common.{◌≡◌, ◌<◌, Bool, true, false, cond, List, [], ◌∷◌, ◌++◌, map, length, Option, Some, None, refl, ap, sym, ◌∙◌, subst, arith, length-append}
+use Rattle.std.specs.Prelude.{nat_eq, option_map}
+use Rattle.std.specs.List.{flat_map, AllByRecursion, Contains}
 use Rattle.std.specs.Map.{lookup}
 use Rattle.std.specs.Cmp.Lexicographic.{pointwise}
 use Rattle.std.proofs.lemmas.List.Elements.{Contains-append_left, Contains-append_right, Contains-get_or}
@@ -10,15 +10,15 @@ use Rattle.code_tables.specs.declared.qualified.QName.{QName}
 use Rattle.code_tables.specs.declared.positions.Pos.{Pos}
 use Rattle.type_terms.specs.declared.descriptors.Node.{Node}
 use Rattle.type_terms.specs.declared.declarations.DeclNode.{DeclNode}
-use Rattle.type_terms.specs.Shapes.{ParamOf, SigOf, param_types, sig_types, param_map, sig_map}
-use Rattle.type_terms.specs.Trees.{Text, Tree}
+use Rattle.type_terms.specs.Shapes.{sig_types}
+use Rattle.type_terms.specs.Trees.{Text}
 use Rattle.type_terms.specs.Denotation.{tree}
 use Rattle.type_terms.specs.Arenas.{Contents, AllBelow, Extends}
 use Rattle.type_terms.specs.Declarations.{ReceiverOf, Form, var_of, function_of, constant_of, defined_of, renamed_of, type_parameter_of, Decl, receiver_map, receiver_types, form_map, form_types, decl_form, decl_nodes}
 use Rattle.type_terms.specs.Environments.{Entry, declared, decl_of, IsProperDecl, entry_types, AddsOnly}
-use Rattle.type_terms.specs.Packages.{Named, IsRising, package_decl, package_entry, package_names, PackageStands, over_entries}
+use Rattle.type_terms.specs.Packages.{Named, package_decl, package_entry, package_names, PackageStands, over_entries}
 use Rattle.type_terms.specs.Replaced.{all_left, all_right, map_agrees}
-use Rattle.type_terms.specs.ShapeLaws.{Agree, type_agrees, params_agree, sig_agrees}
+use Rattle.type_terms.specs.ShapeLaws.{Agree, type_agrees, sig_agrees}
 use Rattle.type_terms.specs.Denoted.{tree_stays, all_weaker}
 
 pub no_entry : (P : Type 0) (entry : Entry) → None ≡ Some entry → P

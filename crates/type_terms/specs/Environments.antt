@@ -1,8 +1,6 @@
 -- What environments give for names, and the rules that the declarations they give keep.
-use Rattle.std.specs.Prelude.{◌≡◌, ℕ, ◌<◌, ◌≤◌, ◌^◌, ◌⊎◌, ◌↔◌, List, [], Bool, true, IsTrue, Option, Some, None, Result, Ok, Err, length}
+use Rattle.std.specs.Prelude.{◌≡◌, ℕ, ◌<◌, ◌≤◌, ◌^◌, ◌⊎◌, List, [], Bool, true, IsTrue, Option, Some, None, Result, Ok, Err, length}
 use Rattle.std.specs.List.{All, Contains}
-use Rattle.code_tables.specs.declared.predeclared.Basic.{Basic}
-use Rattle.code_tables.specs.declared.predeclared.Basic.TheVariants.{Any}
 use Rattle.code_tables.specs.declared.positions.Pos.{Pos}
 use Rattle.code_tables.specs.declared.qualified.QName.{QName}
 use Rattle.code_tables.specs.Basic.{basic_code}
@@ -12,11 +10,11 @@ use Rattle.type_terms.specs.declared.declarations.DeclNode.{DeclNode}
 use Rattle.type_terms.specs.declared.environments.EnvError.{EnvError}
 use Rattle.type_terms.specs.declared.environments.EnvError.TheVariants.{Unknown, Damaged, TableFull, Nodes, OutOfMemory}
 use Rattle.type_terms.specs.Shapes.{SigOf, array_of, func_of, interface_of, instance_of, union_of}
-use Rattle.type_terms.specs.Trees.{Text, Tree, predeclared, named, parameter, alias, pointer, slice, array, chan, map_type, func, struct, interface, instance, union, Level, level_of}
+use Rattle.type_terms.specs.Trees.{Text, Tree, predeclared, named, parameter, alias, interface, instance, union, Level, level_of}
 use Rattle.type_terms.specs.Parts.{Within, MeetsBase}
 use Rattle.type_terms.specs.Denotation.{tree}
 use Rattle.type_terms.specs.Arenas.{Contents, AllBelow}
-use Rattle.type_terms.specs.Declarations.{Form, var_of, function_of, constant_of, defined_of, renamed_of, type_parameter_of, Decl, form_map, form_types, decl_form, decl_nodes}
+use Rattle.type_terms.specs.Declarations.{var_of, function_of, constant_of, defined_of, renamed_of, type_parameter_of, Decl, form_map, form_types, decl_form, decl_nodes}
 
 -- the declaration that a declaration over nodes denotes
 abbrev pub decl_of : List Node → DeclNode → Decl
@@ -49,7 +47,7 @@ IsTypeParameter (parameter q) = Unit {0}
 IsTypeParameter _ = ⊥
 
 abbrev pub IsInterface : Tree → Type 0
-IsInterface (interface home embedded methods) = Unit {0}
+IsInterface (interface home embedded own) = Unit {0}
 IsInterface _ = ⊥
 
 -- A predeclared type up to string, unsafe.Pointer or any, or a literal.
@@ -59,12 +57,12 @@ IsUnderlying (named q) = ⊥
 IsUnderlying (parameter q) = ⊥
 IsUnderlying (alias q) = ⊥
 IsUnderlying (instance base args) = ⊥
-IsUnderlying (union terms) = ⊥
+IsUnderlying (union parts) = ⊥
 IsUnderlying _ = Unit {0}
 
 -- Neither any nor an interface, which have no methods but their own.
 abbrev pub MayHaveMethods : Tree → Type 0
-MayHaveMethods (interface home embedded methods) = ⊥
+MayHaveMethods (interface home embedded own) = ⊥
 MayHaveMethods (predeclared basic) = basic_code basic ≡ 31 → ⊥
 MayHaveMethods _ = Unit {0}
 

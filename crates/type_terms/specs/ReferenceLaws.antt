@@ -1,12 +1,12 @@
 -- The references of a type are those of its parts in reading order, and the names reached are the least set closed under
 -- references.
-use Rattle.std.proofs.Common.{◌≡◌, ℕ, ◌+◌, List, [], ◌∷◌, ◌++◌, length, refl, ap, sym, ◌∙◌, arith}
+use Rattle.std.proofs.Common.{◌≡◌, List, [], ◌∷◌, ◌++◌, length, refl, ap, sym, ◌∙◌, arith}
 use Rattle.std.specs.List.{flat_map, Contains}
 use Rattle.std.proofs.lemmas.Grind.{flat_map-append}
 use Rattle.code_tables.specs.declared.qualified.QName.{QName}
 use Rattle.type_terms.specs.Shapes.{param_types, field_types, method_types, term_types}
-use Rattle.type_terms.specs.Trees.{Tree, predeclared, named, parameter, alias, pointer, slice, array, chan, map_type, func, struct, interface, instance, union, Trees, no_types, types, Params, no_params, params, Fields, no_fields, fields, Methods, no_methods, methods, Terms, no_terms, terms, type_list, param_list, field_list, method_list, term_list, level_of}
-use Rattle.type_terms.specs.References.{Reference, argument_count, tree_references, base_references, types_references, params_references, fields_references, methods_references, terms_references, level_references, Reached, started, followed}
+use Rattle.type_terms.specs.Trees.{Tree, pointer, slice, array, chan, map_type, func, struct, interface, instance, union, Trees, no_types, types, Params, no_params, params, Fields, no_fields, fields, Methods, no_methods, methods, Terms, no_terms, terms, type_list, param_list, field_list, method_list, term_list, level_of}
+use Rattle.type_terms.specs.References.{argument_count, tree_references, base_references, types_references, params_references, fields_references, methods_references, terms_references, level_references, Reached, started, followed}
 
 arguments : (xs : Trees) → argument_count xs ≡ length (type_list xs)
 arguments no_types = refl

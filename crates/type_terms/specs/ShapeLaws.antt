@@ -1,9 +1,9 @@
 -- What holds of every shape, whatever stands in it.
-use Rattle.std.proofs.Common.{◌≡◌, ℕ, List, [], ◌∷◌, ◌++◌, map, refl, ap, sym, ◌∙◌, subst}
+use Rattle.std.proofs.Common.{◌≡◌, List, [], ◌∷◌, ◌++◌, map, refl, ap, sym, ◌∙◌}
 use Rattle.std.specs.List.{flat_map, AllByRecursion}
 use Rattle.std.proofs.lemmas.List.{map-append}
-use Rattle.type_terms.specs.Shapes.{ParamOf, SigOf, OriginOf, FieldOf, MethodOf, TermOf, Shape, predeclared_of, named_of, parameter_of, alias_of, pointer_of, slice_of, array_of, chan_of, map_of, func_of, struct_of, interface_of, instance_of, union_of, param_map, sig_map, field_map, method_map, term_map, shape_map, param_types, sig_types, field_types, method_types, term_types, shape_types, retype}
-use Rattle.type_terms.specs.Replaced.{all_left, all_right, parts_of_map, map_agrees, map_told, singles}
+use Rattle.type_terms.specs.Shapes.{ParamOf, SigOf, FieldOf, MethodOf, TermOf, Shape, pointer_of, slice_of, array_of, chan_of, map_of, func_of, struct_of, interface_of, instance_of, union_of, param_map, sig_map, field_map, method_map, term_map, shape_map, param_types, sig_types, field_types, method_types, term_types, shape_types, retype}
+use Rattle.type_terms.specs.Replaced.{all_left, all_right, parts_of_map, map_agrees}
 
 -- The types of a shape whose parts are replaced are its types, replaced.
 module _ {P P' S S' Q Q' R R' : Type 0} (p : P → P') (s : S → S') (q : Q → Q') (r : R → R') where

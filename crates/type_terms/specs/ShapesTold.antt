@@ -1,7 +1,7 @@
 -- A replacement of the types that tells apart what stands in two shapes tells the shapes apart.
-use Rattle.std.proofs.Common.{◌≡◌, ℕ, List, [], ◌∷◌, ◌++◌, map, refl, ap}
+use Rattle.std.proofs.Common.{◌≡◌, List, [], ◌∷◌, map, refl, ap}
 use Rattle.std.specs.List.{flat_map, AllByRecursion}
-use Rattle.type_terms.specs.Shapes.{ParamOf, SigOf, OriginOf, FieldOf, MethodOf, TermOf, Shape, predeclared_of, named_of, parameter_of, alias_of, pointer_of, slice_of, array_of, chan_of, map_of, func_of, struct_of, interface_of, instance_of, union_of, param_map, sig_map, field_map, method_map, term_map, param_types, sig_types, field_types, method_types, term_types, shape_types, retype}
+use Rattle.type_terms.specs.Shapes.{ParamOf, SigOf, FieldOf, MethodOf, TermOf, Shape, predeclared_of, named_of, parameter_of, alias_of, pointer_of, slice_of, array_of, chan_of, map_of, func_of, struct_of, interface_of, instance_of, union_of, param_map, sig_map, field_map, method_map, term_map, param_types, sig_types, field_types, method_types, term_types, shape_types, retype}
 use Rattle.type_terms.specs.Replaced.{all_left, all_right, map_told}
 
 module _ {R T : Type 0} (f : R → T) (L M : R → Type 0) (tells : (x y : R) → L x → M y → f x ≡ f y → x ≡ y) (P S Q : Type 0) where

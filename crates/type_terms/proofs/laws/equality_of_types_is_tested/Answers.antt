@@ -1,5 +1,4 @@
-use Rattle.std.proofs.Common.{◌≡◌, true, subst, ap, sym, ◌∙◌}
-use Rattle.type_terms.specs.Trees.{Tree}
+use Rattle.std.proofs.Common.{◌≡◌, true, subst}
 use Rattle.type_terms.specs.TreeEquality.{same_tree, same_told, same_itself}
 use Rattle.type_terms.proofs.laws.equality_of_types_is_tested.Goals as goal
 

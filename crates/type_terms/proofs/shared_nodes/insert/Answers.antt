@@ -1,4 +1,4 @@
-use Rattle.std.proofs.Common.{sym, Ok, Err, OnErr}
+use Rattle.std.proofs.Common.{Ok, Err, OnErr}
 use Rattle.std.specs.Prelude.{Result}
 use Rattle.type_terms.proofs.Insertions.{inserted, new_from_missing}
 use Rattle.type_terms.proofs.shared_nodes.insert.Goals as goal

@@ -1,4 +1,4 @@
-use Rattle.std.proofs.Common.{ℕ, ◌≤◌, ◌-◌, length}
+use Rattle.std.proofs.Common.{◌≤◌, ◌-◌, length}
 use Rattle.type_terms.proofs.Searches.{LessBelow, GreaterFrom}
 use Rattle.type_terms.proofs.declarations.Package.decl.Given as goal
 

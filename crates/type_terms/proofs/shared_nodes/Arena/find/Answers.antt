@@ -1,6 +1,5 @@
-use Rattle.std.proofs.Common.{sym, ap, subst}
+use Rattle.std.proofs.Common.{sym}
 use Rattle.std.proofs.lemmas.Option.{slice_get_within}
-use Rattle.type_terms.specs.Arenas.{Contents, IsNode, IsNew}
 use Rattle.type_terms.proofs.Insertions.{new_from_missing, node_at_position}
 use Rattle.type_terms.proofs.shared_nodes.Arena.find.Goals as goal
 
