@@ -1,10 +1,10 @@
 -- What a look-up in an index says of its lists.
-use Rattle.std.proofs.Common.{◌≡◌, ◌<◌, arith, ℕ, suc, zero, List, [], ◌∷◌, ◌++◌, length, Option, None, Some, slice_get, refl, sym, ap}
+use Rattle.std.proofs.Common.{unwrap_or, ◌≡◌, ◌<◌, arith, ℕ, suc, zero, List, [], ◌∷◌, ◌++◌, length, Option, None, Some, slice_get, refl, sym, ap}
 use Rattle.std.specs.List.{flat_map}
 use Rattle.std.specs.Option.{option_map, option_map_or, option_and_then}
 use Rattle.std.proofs.lemmas.List.Concat.{flat_map_single}
 use Rattle.name_index.specs.FullFile.{Entry, Package}
-use Rattle.name_index.specs.Lookup.{heading_at, name_at}
+use Rattle.name_index.specs.Lookup.{heading_at, name_at, names_at}
 use Rattle.exportdata_cmd.specs.Printed.{Line, package_line, name_line}
 use Rattle.exportdata_cmd.specs.Listing.{name_lines, lines_of_package, entries_at, lines_at}
 
@@ -57,10 +57,10 @@ package_there [] k below = absurd (omega arith)
 package_there (p ∷ packages) zero below = (p, refl, refl)
 package_there (p ∷ packages) (suc k) below = package_there packages k (omega arith)
 
-counted : (o : Option Package) → option_map_or (λ p. length p.entries) o 0 ≡ length (option_map_or (λ p. p.entries) o [])
+counted : (o : Option Package) → unwrap_or (option_map (λ p. length p.entries) o) 0 ≡ length (option_map_or (λ p. p.entries) o [])
 counted None = refl
 counted (Some p) = refl
 
 -- how many names are listed
-pub count_there : (packages : List Package) (k : ℕ) → option_map_or (λ p. length p.entries) (slice_get packages k) 0 ≡ length (entries_at packages k)
+pub count_there : (packages : List Package) (k : ℕ) → names_at packages k ≡ length (entries_at packages k)
 count_there packages k = counted (slice_get packages k)

@@ -29,7 +29,8 @@ pub fn carry_out<'a, F: Files, S: Sink>(
     files: &mut F,
     out: &mut S,
 ) -> Result<(), Stop<'a>>
-    ensures carried { Carried (map string_bytes words.now) (F.held files.old) (F.faults files.old) (F.faults files.new) result (sink (S.written out.old) (S.faults out.old)) (sink (S.written out.new) (S.faults out.new)) }
+    ensures carried { Carried (map string_bytes words.now) (F.held files.old) (F.faults files.old) (F.faults files.new) result
+        (sink (S.written out.old) (S.faults out.old)) (sink (S.written out.new) (S.faults out.new)) }
     ensures kept { F.held files.new ≡ F.held files.old }
 {
     match read_command(words) {
@@ -46,7 +47,9 @@ fn list<'a, F: Files, S: Sink>(
     out: &mut S,
 ) -> Result<(), Stop<'a>>
     requires { source.now.label.now ≡ source_word (source_of source.now) }
-    ensures carried { (words : List Word) → IsForm words (list_request (source_of source.now)) → Carried words (F.held files.old) (F.faults files.old) (F.faults files.new) result (sink (S.written out.old) (S.faults out.old)) (sink (S.written out.new) (S.faults out.new)) }
+    ensures carried { (words : List Word) → IsForm words (list_request (source_of source.now))
+        → Carried words (F.held files.old) (F.faults files.old) (F.faults files.new) result
+        (sink (S.written out.old) (S.faults out.old)) (sink (S.written out.new) (S.faults out.new)) }
     ensures kept { F.held files.new ≡ F.held files.old }
 {
     let image = match open_source(alloc, source, files) {

@@ -12,3 +12,6 @@ mod top;
 
 pub use exits::Status;
 pub use top::{refuse_words, run};
+
+#[cfg(test)]
+mod tests;

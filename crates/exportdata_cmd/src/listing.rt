@@ -12,7 +12,8 @@ use std::alloc::Global;
 
 /// Puts the lines of all packages. The room of one line serves for all.
 pub fn put_packages<S: Sink>(alloc: Global, image: &Image, out: &mut S) -> Result<(), PutFault>
-    ensures { PutsLines (lines_of image.now.packages) result (sink (S.written out.old) (S.faults out.old)) (sink (S.written out.new) (S.faults out.new)) }
+    ensures { PutsLines (lines_of image.now.packages) result
+        (sink (S.written out.old) (S.faults out.old)) (sink (S.written out.new) (S.faults out.new)) }
 {
     let mut line = Vec::new(alloc);
     for k in 0..image.package_count() {
@@ -29,7 +30,8 @@ fn put_package<S: Sink>(
     out: &mut S,
 ) -> Result<(), PutFault>
     requires { k < length image.now.packages }
-    ensures { PutsLines (lines_at image.now.packages k) result (sink (S.written out.old) (S.faults out.old)) (sink (S.written out.new) (S.faults out.new)) }
+    ensures { PutsLines (lines_at image.now.packages k) result
+        (sink (S.written out.old) (S.faults out.old)) (sink (S.written out.new) (S.faults out.new)) }
 {
     let Some((path, name)) = image.package(k) else {
         unreachable!();
@@ -45,7 +47,8 @@ fn put_heading<S: Sink>(
     line: &mut Vec<u8>,
     out: &mut S,
 ) -> Result<(), PutFault>
-    ensures { PutsLines (package_line path.now name.now ∷ []) result (sink (S.written out.old) (S.faults out.old)) (sink (S.written out.new) (S.faults out.new)) }
+    ensures { PutsLines (package_line path.now name.now ∷ []) result
+        (sink (S.written out.old) (S.faults out.old)) (sink (S.written out.new) (S.faults out.new)) }
 {
     if write_package_line(line, path, name).is_err() {
         return Err(PutFault::OutOfMemory);
@@ -60,7 +63,8 @@ fn put_names<S: Sink>(
     line: &mut Vec<u8>,
     out: &mut S,
 ) -> Result<(), PutFault>
-    ensures { PutsLines (name_lines (entries_at image.now.packages k)) result (sink (S.written out.old) (S.faults out.old)) (sink (S.written out.new) (S.faults out.new)) }
+    ensures { PutsLines (name_lines (entries_at image.now.packages k)) result
+        (sink (S.written out.old) (S.faults out.old)) (sink (S.written out.new) (S.faults out.new)) }
 {
     for j in 0..image.names_in(k) {
         let Some((name, offset)) = image.name_in(k, j) else {
@@ -78,7 +82,8 @@ fn put_name<S: Sink>(
     line: &mut Vec<u8>,
     out: &mut S,
 ) -> Result<(), PutFault>
-    ensures { PutsLines (name_line name.now offset ∷ []) result (sink (S.written out.old) (S.faults out.old)) (sink (S.written out.new) (S.faults out.new)) }
+    ensures { PutsLines (name_line name.now offset ∷ []) result
+        (sink (S.written out.old) (S.faults out.old)) (sink (S.written out.new) (S.faults out.new)) }
 {
     if write_name_line(line, name, offset).is_err() {
         return Err(PutFault::OutOfMemory);

@@ -16,7 +16,8 @@ pub enum PutFault {
 
 /// Puts a line.
 pub fn put_line<S: Sink>(line: &[u8], out: &mut S) -> Result<(), PutFault>
-    ensures { PutsLines (line.now ∷ []) result (sink (S.written out.old) (S.faults out.old)) (sink (S.written out.new) (S.faults out.new)) }
+    ensures { PutsLines (line.now ∷ []) result
+        (sink (S.written out.old) (S.faults out.old)) (sink (S.written out.new) (S.faults out.new)) }
 {
     match out.put(line) {
         Ok(()) => Ok(()),
@@ -26,7 +27,8 @@ pub fn put_line<S: Sink>(line: &[u8], out: &mut S) -> Result<(), PutFault>
 
 /// Puts an error line, or where there is no memory for it the line that says so, and gives the status.
 pub fn report<E: Sink>(alloc: Global, error: ErrorLine<'_>, err: &mut E) -> Status
-    ensures { Reports error.entry result (sink (E.written err.old) (E.faults err.old)) (sink (E.written err.new) (E.faults err.new)) }
+    ensures { Reports error.entry result
+        (sink (E.written err.old) (E.faults err.old)) (sink (E.written err.new) (E.faults err.new)) }
 {
     let Ok(line) = error.line(alloc) else {
         return match err.put(b"no memory\n") {

@@ -25,20 +25,28 @@ pub fn run<R: Threads + Sync, F: Files, S: Sink, E: Sink, G: Gate>(
     _gate: &G,
 ) -> Status
     // The status has its cause, and both sinks have what goes with it.
-    ensures ends { result ≢ Status.Output → EndsWith (map string_bytes words.now) (F.held files.old) result (sink (S.written out.old) (S.faults out.old)) (sink (S.written out.new) (S.faults out.new)) (sink (E.written err.old) (E.faults err.old)) (sink (E.written err.new) (E.faults err.new)) }
+    ensures ends { result ≢ Status.Output → EndsWith (map string_bytes words.now) (F.held files.old) result
+        (sink (S.written out.old) (S.faults out.old)) (sink (S.written out.new) (S.faults out.new))
+        (sink (E.written err.old) (E.faults err.old)) (sink (E.written err.new) (E.faults err.new)) }
 
     // Only a sink's fault makes it Output, and each does. What was due was then cut short.
     ensures output { result ≡ Status.Output → Rose (S.faults out.old) (S.faults out.new) ⊎ Rose (E.faults err.old) (E.faults err.new) }
     ensures out_failed { S.faults out.old < S.faults out.new → result ≡ Status.Output }
     ensures err_failed { E.faults err.old < E.faults err.new → result ≡ Status.Output }
-    ensures cut_short { result ≡ Status.Output → IsCutShort (map string_bytes words.now) (F.held files.old) (sink (S.written out.old) (S.faults out.old)) (sink (S.written out.new) (S.faults out.new)) (sink (E.written err.old) (E.faults err.old)) (sink (E.written err.new) (E.faults err.new)) }
+    ensures cut_short { result ≡ Status.Output → IsCutShort (map string_bytes words.now) (F.held files.old)
+        (sink (S.written out.old) (S.faults out.old)) (sink (S.written out.new) (S.faults out.new))
+        (sink (E.written err.old) (E.faults err.old)) (sink (E.written err.new) (E.faults err.new)) }
 
     // Only a fault of the files makes it Files, and the files stay as they are.
     ensures files { result ≡ Status.Files → Rose (F.faults files.old) (F.faults files.new) }
     ensures kept { F.held files.new ≡ F.held files.old }
 
     // What can be listed is listed, unless memory is wanting or a fault was met.
-    ensures complete { CanList (map string_bytes words.now) (F.held files.old) → ¬ Rose (F.faults files.old) (F.faults files.new) → ¬ Rose (S.faults out.old) (S.faults out.new) → ¬ Rose (E.faults err.old) (E.faults err.new) → (result ≡ Status.Done) ⊎ (result ≡ Status.Memory) }
+    ensures complete { CanList (map string_bytes words.now) (F.held files.old)
+        → ¬ Rose (F.faults files.old) (F.faults files.new)
+        → ¬ Rose (S.faults out.old) (S.faults out.new)
+        → ¬ Rose (E.faults err.old) (E.faults err.new)
+        → (result ≡ Status.Done) ⊎ (result ≡ Status.Memory) }
 {
     match carry_out(alloc, words, files, out) {
         Ok(()) => Status::Done,
@@ -49,7 +57,8 @@ pub fn run<R: Threads + Sync, F: Files, S: Sink, E: Sink, G: Gate>(
 
 /// Refuses words of which the one after these isn't text.
 pub fn refuse_words<E: Sink>(alloc: Global, words: &[String], err: &mut E) -> Status
-    ensures refused { IsRefusedWord (map string_bytes words.now) result (sink (E.written err.old) (E.faults err.old)) (sink (E.written err.new) (E.faults err.new)) }
+    ensures refused { IsRefusedWord (map string_bytes words.now) result
+        (sink (E.written err.old) (E.faults err.old)) (sink (E.written err.new) (E.faults err.new)) }
 {
     let wrong = first_wrong_word(words);
     report(alloc, ErrorLine::WrongWord(wrong.number), err)
