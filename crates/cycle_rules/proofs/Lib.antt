@@ -1,0 +1,11 @@
+pub mod Closing
+pub mod Containing
+pub mod Counting
+pub mod Ending
+pub mod Entering
+pub mod Finishing
+pub mod Fitting
+pub mod Following
+pub mod Places
+pub mod Ranking
+pub mod Reaching

@@ -1,0 +1,13 @@
+use Rattle.std.proofs.Common.{length, map, slice_set, refl, ap, ◌∙◌}
+use Rattle.std.proofs.lemmas.Option.{slice_get_read}
+use Rattle.cycle_rules.proofs.Places.{at-map_of, map-set}
+use Rattle.cycle_rules.proofs.containment.Containment.push_edge.Goals as goal
+
+pub returns-clause-edges : goal.returns-clause-edges
+returns-clause-edges c =
+    let rows = c.args.self.now.edges.items in
+    record {
+      row = c.index_mut.result.now.items;
+      from = at-map_of (λ r. r.items) rows c.args.owner c.index_mut.result.now (slice_get_read rows (length rows) c.args.owner c.index_mut.result.now refl c.requires c.index_mut.ensures.value);
+      to = map-set (λ r. r.items) rows c.args.owner c.push.new.self ∙ ap (λ l. slice_set (map (λ r. r.items) rows) c.args.owner l) c.in_ok-push.ensures.items;
+    }

@@ -1,0 +1,10 @@
+//! The cycles that Go forbids among declarations.
+#![tactic(auto)]
+
+mod components;
+mod containment;
+mod cycles;
+mod shapes;
+
+pub use cycles::{CycleFault, CycleKind, Ranks, check_cycles, ranks_exclude_cycles};
+pub use shapes::{Form, Shape};
