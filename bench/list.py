@@ -2,7 +2,7 @@
 """Times `exportdata list` on a full file near 16 MiB against `cat` of the text that it prints.
 
 The file has one package with as many names as fit. Each run times both, one after the other, each into a file, and the
-ratio of the two times is taken within the run. Build the program first, as README.md says.
+ratio of the two times is taken within the run, on the clock and of a processor. Build the program first, as README.md says.
 
 usage: bench/list.py [PROGRAM]
 """
@@ -41,10 +41,21 @@ def full_file():
 
 
 def seconds(command, target):
+    """How long a command took, on the clock and of a processor."""
     with open(target, "wb") as out:
         start = time.perf_counter()
-        subprocess.run(command, stdout=out, check=True)
-        return time.perf_counter() - start
+        child = subprocess.Popen(command, stdout=out)
+        _, status, used = os.wait4(child.pid, 0)
+        child.returncode = os.waitstatus_to_exitcode(status)
+        took = time.perf_counter() - start
+    assert child.returncode == 0, command
+    return took, used.ru_utime + used.ru_stime
+
+
+def show(what, ours, theirs):
+    ratios = [a / b for a, b in zip(ours, theirs)]
+    print(f"{what}: list {statistics.median(ours) * 1000:.1f} ms, cat {statistics.median(theirs) * 1000:.1f} ms (medians);"
+          f" ratio: median {statistics.median(ratios):.1f}, least {min(ratios):.1f}, greatest {max(ratios):.1f}")
 
 
 def main():
@@ -63,10 +74,9 @@ def main():
         with open(printed, "rb") as file:
             assert file.read().count(b"\n") == NAMES + 1
         rows = [(seconds(command, printed), seconds(["cat", printed], copied)) for _ in range(RUNS)]
-        ratios = [ours / theirs for ours, theirs in rows]
         print(f"{size} bytes, {NAMES} names, {os.path.getsize(printed)} bytes printed, {RUNS} runs")
-        print(f"list {statistics.median(r[0] for r in rows) * 1000:.1f} ms, cat {statistics.median(r[1] for r in rows) * 1000:.1f} ms (medians)")
-        print(f"ratio: median {statistics.median(ratios):.1f}, least {min(ratios):.1f}, greatest {max(ratios):.1f}")
+        for k, what in enumerate(["on the clock", "of a processor"]):
+            show(what, [ours[k] for ours, _ in rows], [theirs[k] for _, theirs in rows])
 
 
 main()
