@@ -1,0 +1,7 @@
+use Rattle.std.proofs.Common.{take, sym, ap, ◌∙◌}
+use Rattle.std.proofs.Math.Seq.{take-length}
+use Rattle.std.proofs.lemmas.Str.{utf8_valid_len-IsUtf8}
+use Rattle.go_lexer.proofs.source.valid_front.Goals as goal
+
+pub returns-in-Ok : goal.returns-in-Ok
+returns-in-Ok c = c.in-Ok.ensures.cases.0 ∙ sym (ap (λ n. take n c.args.src.now) (utf8_valid_len-IsUtf8 c.args.src.now c.in-Ok.ensures.cases.1) ∙ take-length c.args.src.now)

@@ -1,0 +1,15 @@
+pub mod Characters
+pub mod Classes
+pub mod Comments
+pub mod Escapes
+pub mod Literals
+pub mod Marks
+pub mod Pieces
+pub mod Words
+pub mod NumberGrammar
+pub mod Numbers
+pub mod Front
+pub mod Grammar
+pub mod Lexing
+pub mod Source
+pub mod TokenGrammar

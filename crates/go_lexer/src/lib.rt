@@ -1,0 +1,20 @@
+//! The tokens of Go source, with the first fault at its place.
+#![tactic(auto)]
+
+mod characters;
+mod classes;
+mod comments;
+mod escapes;
+mod fronts;
+mod lexing;
+mod literals;
+mod marks;
+mod numbers;
+mod pieces;
+mod source;
+mod token_kinds;
+mod words;
+
+pub use lexing::{one_reading, tokens};
+pub use numbers::number_literals;
+pub use token_kinds::{LexFault, Token, TokenKind};
