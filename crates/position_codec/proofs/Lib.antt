@@ -1,0 +1,4 @@
+pub mod Differences
+pub mod Places
+pub mod Written
+pub mod Readings

@@ -1,0 +1,4 @@
+pub mod Place
+pub mod Position
+pub mod Calls
+pub mod Steps
