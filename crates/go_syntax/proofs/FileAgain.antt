@@ -1,0 +1,159 @@
+-- A file that is written is read again.
+use Rattle.std.proofs.Common.{◌≡◌, ℕ, max, Bool, true, false, List, [], ◌∷◌, ◌++◌, Ok, refl, arith}
+use Rattle.go_syntax.specs.declared.symbols.Symbol.{Symbol}
+use Rattle.go_syntax.specs.declared.symbols.Symbol.TheVariants as t
+use Rattle.go_syntax.specs.declared.symbols.Ident.{Ident}
+use Rattle.go_syntax.specs.declared.tree.Import.{Import}
+use Rattle.go_syntax.specs.declared.tree.Top.{Top}
+use Rattle.go_syntax.specs.declared.tree.TypeExpr.{TypeExpr}
+use Rattle.go_syntax.specs.declared.tree.SourceFile.{SourceFile}
+use Rattle.go_syntax.specs.Reading.{Reply, starts, is_comma, is_assign, is_open_paren, is_close_paren, is_import, is_var, is_type, row}
+use Rattle.go_syntax.specs.Names as names_of
+use Rattle.go_syntax.specs.Names.{IsNames}
+use Rattle.go_syntax.specs.Types.{begins_type, type_at}
+use Rattle.go_syntax.specs.Decls as d
+use Rattle.go_syntax.specs.Decls.{vars, defined, alias, source_file, IsImport, IsVarSpec, IsTypeSpec, IsBlock, IsGroup, IsImports, IsTops, IsFileOf}
+use Rattle.go_syntax.specs.Files.{import_at, vars_typed, vars_more, var_spec_at, alias_by, defined_by, type_spec_at, single_at, group_at, decl_end, decl_at, import_step, top_step, imports_at, tops_at, file_tops, file_imports, file_front}
+use Rattle.go_syntax.proofs.Rows.{Eats, eats_of}
+use Rattle.go_syntax.proofs.Steps.{Any, steps_is}
+use Rattle.go_syntax.proofs.FileReads.{import_reads, no_import_here, var_reads, no_var, spec_reads, no_spec, import_local, top_local}
+use Rattle.go_syntax.proofs.Agreeing.{Agrees, agrees_bind, choose_other, names_again, row_none, row_last, row_more}
+use Rattle.go_syntax.proofs.TypeAgain.{Free, next_so, type_no_comma, type_begins, type_again}
+
+-- ---- specifications
+
+ends_spec : Symbol → Bool
+ends_spec (t.Semicolon s) = true
+ends_spec (t.CloseParen s) = true
+ends_spec _ = false
+
+type_no_assign : (k : Symbol) → begins_type k ≡ true → is_assign k ≡ false
+type_no_assign (t.Assign c) e = absurd cc
+type_no_assign _ e = refl
+
+import_again : (n m : ℕ) (ts : List Symbol) (x : Import) (rest : List Symbol) → IsImport m ts x rest → Agrees n m x rest (import_at ts)
+import_again n m ts x rest (d.plainly s r) = (refl, refl, omega arith)
+import_again n m ts x rest (d.named_so i s r) = (refl, refl, omega arith)
+
+typed_again : (n m : ℕ) (names : List Ident) (us : List Symbol) (ty : TypeExpr) (rest : List Symbol) → Agrees n m ty rest (type_at n us) → Agrees n m (vars names ty) rest (vars_typed n names us)
+typed_again n m names us ty rest h = agrees_bind n m ty rest n m (vars names ty) rest (type_at n us) (λ z ws. Ok (vars names z, ws)) h (λ x. x) (λ f. (refl, refl, f))
+
+names_typed : (n m : ℕ) (i : Ident) (names : List Ident) (ts us : List Symbol) (ty : TypeExpr) (rest : List Symbol) → IsNames ts (i ∷ names) us → starts begins_type us ≡ true → Agrees n m ty rest (type_at n us)
+    → Agrees n m (vars (i ∷ names) ty) rest (var_spec_at n ts)
+names_typed n m i names ts us ty rest (names_of.one j r) b h =
+    rw (choose_other is_comma us (vars_more n i) (vars_typed n (i ∷ []) us) (next_so begins_type is_comma true false us type_no_comma (λ e. refl) b)) (typed_again n m (i ∷ []) us ty rest h)
+names_typed n m i names ts us ty rest (names_of.more j c ws ns r q) b h =
+    rw (names_again ws names us q (next_so begins_type is_comma true false us type_no_comma (λ e. refl) b)) (typed_again n m (i ∷ names) us ty rest h)
+
+var_again : (n m : ℕ) (ts : List Symbol) (x : Top) (rest : List Symbol) → IsVarSpec m ts x rest → Free rest → Agrees n m x rest (var_spec_at n ts)
+var_again n m ts x rest (d.of_type j us i names vs ty r a b) e = names_typed n j i names us vs ty r a (type_begins j vs ty r b) (type_again j vs ty r b e n)
+
+spec_again : (n m : ℕ) (ts : List Symbol) (x : Top) (rest : List Symbol) → IsTypeSpec m ts x rest → Free rest → Agrees n m x rest (type_spec_at n ts)
+spec_again n m ts x rest (d.defines j i us ty r b) e =
+    rw (choose_other is_assign us (alias_by n i) (defined_by n i us) (next_so begins_type is_assign true false us type_no_assign (λ h. refl) (type_begins j us ty r b)))
+    (agrees_bind n j ty r n j (defined i ty) r (type_at n us) (λ z ws. Ok (defined i z, ws)) (type_again j us ty r b e n) (λ x. x) (λ f. (refl, refl, f)))
+spec_again n m ts x rest (d.renames j i a us ty r b) e = agrees_bind n j ty r n j (alias i ty) r (type_at n us) (λ z ws. Ok (alias i z, ws)) (type_again j us ty r b e n) (λ x. x) (λ f. (refl, refl, f))
+
+-- ---- groups
+
+-- what a group needs of its specifications, where n nodes are allowed
+record Items {X : Type 0} (n : ℕ) (F : ℕ → List Symbol → X → List Symbol → Type 0) (one : List Symbol → Reply X) : Type 0 where
+  eats_one : Eats one
+  again : (m : ℕ) (ts : List Symbol) (x : X) (rest : List Symbol) → F m ts x rest → Free rest → Agrees n m x rest (one ts)
+  no_open : (m : ℕ) (ts : List Symbol) (x : X) (rest : List Symbol) → F m ts x rest → starts is_open_paren ts ≡ false
+  no_close : (m : ℕ) (ts : List Symbol) (x : X) (rest : List Symbol) → F m ts x rest → starts is_close_paren ts ≡ false
+
+block_again : {X : Type 0} (n : ℕ) (F : ℕ → List Symbol → X → List Symbol → Type 0) (one : List Symbol → Reply X) → Items n F one → (m : ℕ) (ts : List Symbol) (xs : List X) (rest : List Symbol) → IsBlock F m ts xs rest → Agrees n m xs rest (row is_close_paren one ts)
+block_again n F one I m ts xs rest (d.none_in_block c r) = row_none is_close_paren one I.eats_one (t.CloseParen c) r n refl
+block_again n F one I m ts xs rest (d.last_in_block j c us x r a) = row_last is_close_paren one I.eats_one n j us x (t.CloseParen c) r (I.no_close j us x (t.CloseParen c ∷ r) a) refl (I.again j us x (t.CloseParen c ∷ r) a refl)
+block_again n F one I m ts xs rest (d.more_in_block i j s us vs x ys r a b) =
+    row_more is_close_paren one I.eats_one n i j us x s vs ys r (I.no_close i us x (t.Semicolon s ∷ vs) a) refl (I.again i us x (t.Semicolon s ∷ vs) a refl) (block_again n F one I j vs ys r b)
+
+group_again : {X : Type 0} (n : ℕ) (F : ℕ → List Symbol → X → List Symbol → Type 0) (one : List Symbol → Reply X) → Items n F one → (m : ℕ) (ts : List Symbol) (xs : List X) (rest : List Symbol) → IsGroup F m ts xs rest → Free rest → Agrees n m xs rest (group_at one ts)
+group_again n F one I m ts xs rest (d.single j us x r a) e =
+    rw (choose_other is_open_paren us (row is_close_paren one) (single_at one us) (I.no_open j us x r a)) (agrees_bind n j x r n j (x ∷ []) r (one us) (λ z ws. Ok (z ∷ [], ws)) (I.again j us x r a e) (λ h. h) (λ f. (refl, refl, f)))
+group_again n F one I m ts xs rest (d.grouped j o us ys r a) e = block_again n F one I j us ys r a
+
+decl_again : {X : Type 0} (n m j : ℕ) (one : List Symbol → Reply X) (more : List Symbol → Reply (List X)) (ts : List Symbol) (xs : List X) (s : ℕ) (us : List Symbol) (ys : List X) (rest : List Symbol) → Agrees n m xs (t.Semicolon s ∷ us) (group_at one ts)
+    → Agrees n j ys rest (more us) → Agrees n (max m j) (xs ++ ys) rest (decl_at one more ts)
+decl_again n m j one more ts xs s us ys rest h g =
+    agrees_bind n m xs (t.Semicolon s ∷ us) n (max m j) (xs ++ ys) rest (group_at one ts) (decl_end more) h (λ e. omega arith)
+    (λ f. agrees_bind n j ys rest n (max m j) (xs ++ ys) rest (more us) (λ zs vs. Ok (xs ++ zs, vs)) g (λ e. omega arith) (λ w. (refl, refl, omega arith)))
+
+-- ---- imports
+
+import_not_open : (m : ℕ) (ts : List Symbol) (x : Import) (rest : List Symbol) → IsImport m ts x rest → starts is_open_paren ts ≡ false
+import_not_open m ts x rest (d.plainly s r) = refl
+import_not_open m ts x rest (d.named_so i s r) = refl
+
+import_not_close : (m : ℕ) (ts : List Symbol) (x : Import) (rest : List Symbol) → IsImport m ts x rest → starts is_close_paren ts ≡ false
+import_not_close m ts x rest (d.plainly s r) = refl
+import_not_close m ts x rest (d.named_so i s r) = refl
+
+import_items : (n : ℕ) → Items n IsImport import_at
+import_items n = record { eats_one = eats_of (Any IsImport) import_at no_import_here import_reads; again = λ m ts x rest w e. import_again n m ts x rest w; no_open = import_not_open; no_close = import_not_close }
+
+import_opens : (later : List Symbol → Reply (List Import)) (r : List Symbol) → starts is_import r ≡ false → import_step later r ≡ Ok ([], r)
+import_opens later [] e = refl
+import_opens later (k ∷ r) e = rw e refl
+
+imports_again : (n m : ℕ) (ts : List Symbol) (xs : List Import) (rest : List Symbol) → IsImports m ts xs rest → starts is_import rest ≡ false → Agrees n m xs rest (imports_at ts)
+imports_again n m ts xs rest (d.no_import r) e = rw (steps_is import_step import_local r, import_opens imports_at r e) (refl, refl, omega arith)
+imports_again n m ts xs rest (d.imports_too i j at s us vs ys zs r a b) e =
+    rw (steps_is import_step import_local (t.Import at ∷ us))
+    (decl_again n i j import_at imports_at us ys s vs zs r (group_again n IsImport import_at (import_items n) i us ys (t.Semicolon s ∷ vs) a refl) (imports_again n j vs zs r b e))
+
+-- ---- declarations
+
+var_not_open : (m : ℕ) (ts : List Symbol) (x : Top) (rest : List Symbol) → IsVarSpec m ts x rest → starts is_open_paren ts ≡ false
+var_not_open m ts x rest (d.of_type j us i names vs ty r (names_of.one i' r') b) = refl
+var_not_open m ts x rest (d.of_type j us i names vs ty r (names_of.more i' c ws ns r' q) b) = refl
+
+var_not_close : (m : ℕ) (ts : List Symbol) (x : Top) (rest : List Symbol) → IsVarSpec m ts x rest → starts is_close_paren ts ≡ false
+var_not_close m ts x rest (d.of_type j us i names vs ty r (names_of.one i' r') b) = refl
+var_not_close m ts x rest (d.of_type j us i names vs ty r (names_of.more i' c ws ns r' q) b) = refl
+
+var_items : (n : ℕ) → Items n IsVarSpec (var_spec_at n)
+var_items n = record { eats_one = eats_of (Any IsVarSpec) (var_spec_at n) no_var (var_reads n); again = var_again n; no_open = var_not_open; no_close = var_not_close }
+
+spec_not_open : (m : ℕ) (ts : List Symbol) (x : Top) (rest : List Symbol) → IsTypeSpec m ts x rest → starts is_open_paren ts ≡ false
+spec_not_open m ts x rest (d.defines j i us ty r b) = refl
+spec_not_open m ts x rest (d.renames j i a us ty r b) = refl
+
+spec_not_close : (m : ℕ) (ts : List Symbol) (x : Top) (rest : List Symbol) → IsTypeSpec m ts x rest → starts is_close_paren ts ≡ false
+spec_not_close m ts x rest (d.defines j i us ty r b) = refl
+spec_not_close m ts x rest (d.renames j i a us ty r b) = refl
+
+spec_items : (n : ℕ) → Items n IsTypeSpec (type_spec_at n)
+spec_items n = record { eats_one = eats_of (Any IsTypeSpec) (type_spec_at n) no_spec (spec_reads n); again = spec_again n; no_open = spec_not_open; no_close = spec_not_close }
+
+top_opens : (n : ℕ) (later : List Symbol → Reply (List Top)) (r : List Symbol) → starts is_var r ≡ false → starts is_type r ≡ false → top_step n later r ≡ Ok ([], r)
+top_opens n later [] e f = refl
+top_opens n later (k ∷ r) e f = rw (e, f) refl
+
+tops_again : (n m : ℕ) (ts : List Symbol) (xs : List Top) (rest : List Symbol) → IsTops m ts xs rest → starts is_var rest ≡ false → starts is_type rest ≡ false → Agrees n m xs rest (tops_at n ts)
+tops_again n m ts xs rest (d.no_top r) e f = rw (steps_is (top_step n) (top_local n) r, top_opens n (tops_at n) r e f) (refl, refl, omega arith)
+tops_again n m ts xs rest (d.vars_too i j at s us vs ys zs r a b) e f =
+    rw (steps_is (top_step n) (top_local n) (t.Var at ∷ us))
+    (decl_again n i j (var_spec_at n) (tops_at n) us ys s vs zs r (group_again n IsVarSpec (var_spec_at n) (var_items n) i us ys (t.Semicolon s ∷ vs) a refl) (tops_again n j vs zs r b e f))
+tops_again n m ts xs rest (d.types_too i j at s us vs ys zs r a b) e f =
+    rw (steps_is (top_step n) (top_local n) (t.Type at ∷ us))
+    (decl_again n i j (type_spec_at n) (tops_at n) us ys s vs zs r (group_again n IsTypeSpec (type_spec_at n) (spec_items n) i us ys (t.Semicolon s ∷ vs) a refl) (tops_again n j vs zs r b e f))
+
+tops_no_import : (m : ℕ) (ts : List Symbol) (xs : List Top) (rest : List Symbol) → IsTops m ts xs rest → starts is_import rest ≡ false → starts is_import ts ≡ false
+tops_no_import m ts xs rest (d.no_top r) e = e
+tops_no_import m ts xs rest (d.vars_too i j at s us vs ys zs r a b) e = refl
+tops_no_import m ts xs rest (d.types_too i j at s us vs ys zs r a b) e = refl
+
+-- ---- files
+
+after_clause : (n m j : ℕ) (i : Ident) (ts us : List Symbol) (imports : List Import) (tops : List Top) (rest : List Symbol) → Agrees n m imports us (imports_at ts) → Agrees n j tops rest (tops_at n us)
+    → Agrees n (max m j) (source_file i imports tops) rest (file_imports n i ts)
+after_clause n m j i ts us imports tops rest h g =
+    agrees_bind n m imports us n (max m j) (source_file i imports tops) rest (imports_at ts) (file_tops n i) h (λ e. omega arith)
+    (λ f. agrees_bind n j tops rest n (max m j) (source_file i imports tops) rest (tops_at n us) (λ zs vs. Ok (source_file i imports zs, vs)) g (λ e. omega arith) (λ w. (refl, refl, omega arith)))
+
+pub file_again : (n m : ℕ) (ts : List Symbol) (f : SourceFile) (rest : List Symbol) → IsFileOf m ts f rest → starts is_import rest ≡ false → starts is_var rest ≡ false → starts is_type rest ≡ false → Agrees n m f rest (file_front n ts)
+unfolding file_front
+file_again n m ts f rest (d.file i j at x s us vs imports tops r a b) e v w =
+    after_clause n i j x us vs imports tops r (imports_again n i us imports vs a (tops_no_import j vs tops r b e)) (tops_again n j vs tops r b v w)

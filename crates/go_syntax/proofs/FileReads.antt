@@ -1,0 +1,212 @@
+-- What the readers of declarations and files do.
+use Rattle.std.proofs.Common.{◌≡◌, ℕ, max, ◌<◌, Bool, true, false, if◌then◌else◌, List, [], ◌∷◌, length, Some, None, Ok, refl, sym, subst, arith}
+use Rattle.go_syntax.specs.declared.symbols.Symbol.{Symbol}
+use Rattle.go_syntax.specs.declared.symbols.Symbol.TheVariants as t
+use Rattle.go_syntax.specs.declared.symbols.Ident.{Ident}
+use Rattle.go_syntax.specs.declared.symbols.Span.{Span}
+use Rattle.go_syntax.specs.declared.faults.Fault.TheVariants.{DotImport}
+use Rattle.go_syntax.specs.declared.tree.Import.{Import}
+use Rattle.go_syntax.specs.declared.tree.Top.{Top}
+use Rattle.go_syntax.specs.declared.tree.SourceFile.{SourceFile}
+use Rattle.go_syntax.specs.Reading.{Reply, ◌>>=◌, unexpected, past, choose, is_package, is_semicolon, is_comma, is_assign, is_import, is_var, is_type}
+use Rattle.go_syntax.specs.Names.{IsNames, one, more, ident_at, names_at}
+use Rattle.go_syntax.specs.Types.{type_at}
+use Rattle.go_syntax.specs.Decls as d
+use Rattle.go_syntax.specs.Decls.{import, vars, defined, alias, source_file, IsImport, IsVarSpec, IsTypeSpec, IsImports, IsTops, IsFileOf}
+use Rattle.go_syntax.specs.Files.{text_at, named_import, dot_import, import_at, vars_typed, vars_more, vars_first, var_spec_at, alias_by, defined_by, type_first, type_spec_at, decl_at, import_step, top_step, imports_at, tops_at, file_tops, file_imports, file_clause, file_name, file_front}
+use Rattle.go_syntax.proofs.Viable.{next_is, ReadsAt, Sample, Behind, Past, After, done_reads, refuse_reads, refuse_next, refuse_end, like_reads, as_reads, cons_reads, past_reads, choose_reads_on, choose_reads, bind_reads, value_reads}
+use Rattle.go_syntax.proofs.Marks.{semicolon, comma, assign, import_word, var_word, type_word, package_word}
+use Rattle.go_syntax.proofs.NameReads.{IsIdent, any_ident, ident_reads, names_reads, no_names}
+use Rattle.go_syntax.proofs.FieldReads.{TypeAt, some_type, through_value}
+use Rattle.go_syntax.proofs.TypeReads.{type_reads}
+use Rattle.go_syntax.proofs.Rows.{Eats, eats_of}
+use Rattle.go_syntax.proofs.Steps.{Local, steps_read, Any, decl_same, decl_reads}
+
+-- ---- imports
+
+abbrev IsText : List Symbol → Span → List Symbol → Type 0
+IsText ts s rest = ts ≡ t.Text s ∷ rest
+
+abbrev any_text : Span
+any_text = record { start = 0; end = 0 }
+
+some_text : Sample IsText
+some_text = record { tokens = t.Text any_text ∷ []; made = any_text; stands = λ tail. refl }
+
+text_reads : (ts : List Symbol) → ReadsAt IsText text_at ts (text_at ts)
+text_reads [] = refuse_end IsText text_at some_text refl
+text_reads (t.Text s ∷ ts) = cons_reads IsText text_at (λ r. Ok (s, r)) (t.Text s) ts (Ok (s, ts)) (λ r. refl) (done_reads (Behind (t.Text s) IsText) (λ r. Ok (s, r)) ts s (λ tail. refl) (λ r e. refl))
+text_reads (k ∷ ts) = refuse_next IsText text_at k ts some_text (λ r. refl)
+
+some_import : Sample (Any IsImport)
+some_import = record { tokens = t.Text any_text ∷ []; made = import None any_text; stands = λ tail. (0, d.plainly any_text tail) }
+
+pub import_reads : (ts : List Symbol) → ReadsAt (Any IsImport) import_at ts (import_at ts)
+import_reads [] = refuse_end (Any IsImport) import_at some_import refl
+import_reads (t.Text s ∷ ts) =
+    cons_reads (Any IsImport) import_at (λ r. Ok (import None s, r)) (t.Text s) ts (Ok (import None s, ts)) (λ r. refl)
+    (done_reads (Behind (t.Text s) (Any IsImport)) (λ r. Ok (import None s, r)) ts (import None s) (λ tail. (0, d.plainly s tail)) (λ r e. refl))
+import_reads (t.Ident i ∷ ts) =
+    cons_reads (Any IsImport) import_at (named_import i) (t.Ident i) ts (named_import i ts) (λ r. refl)
+    (value_reads IsText (Behind (t.Ident i) (Any IsImport)) text_at (λ s. import (Some i) s) ts (λ us s rest w. rw w (0, d.named_so i s rest)) (text_at ts) (text_reads ts))
+import_reads (t.Dot at ∷ ts) = refuse_reads (Any IsImport) import_at (t.Dot at ∷ ts) (DotImport (length (t.Dot at ∷ ts))) some_import refl (next_is (λ r. import_at r ≡ dot_import r) (t.Dot at) (λ r. refl))
+import_reads (k ∷ ts) = refuse_next (Any IsImport) import_at k ts some_import (λ r. refl)
+
+no_import_of : (m : ℕ) (x : Import) (us : List Symbol) → IsImport m [] x us → ⊥
+no_import_of m x us w = elim w [ ]
+
+pub no_import_here : (x : Import) (us : List Symbol) → Any IsImport [] x us → ⊥
+no_import_here x us w = no_import_of w.0 x us w.1
+
+-- ---- variables
+
+abbrev VarAt : List Symbol → Top → List Symbol → Type 0
+VarAt = Any IsVarSpec
+
+typed_reads : (n : ℕ) (i : Ident) (names : List Ident) (ts : List Symbol) → ReadsAt (After IsNames VarAt (i ∷ names)) (vars_typed n (i ∷ names)) ts (vars_typed n (i ∷ names) ts)
+typed_reads n i names ts =
+    value_reads TypeAt (After IsNames VarAt (i ∷ names)) (type_at n) (λ ty. vars (i ∷ names) ty) ts (λ us ty rest w vs v. (w.0, d.of_type w.0 vs i names us ty rest v w.1)) (type_at n ts) (type_reads n ts)
+
+abbrev flat_vars : ℕ → Ident → List Symbol → Reply Top
+flat_vars n i ts = names_at ts >>= λ names. vars_typed n (i ∷ names.0) names.1
+
+vars_is : (n : ℕ) (i : Ident) (ts : List Symbol) → vars_more n i ts ≡ flat_vars n i ts
+vars_is n i ts = through_value (names_at ts) (λ (names : List Ident). i ∷ names) (λ names us. vars_typed n names us)
+
+flat_reads : (n : ℕ) (i : Ident) (ts : List Symbol) → ReadsAt (Past comma (Behind (t.Ident i) VarAt)) (flat_vars n i) ts (flat_vars n i ts)
+flat_reads n i ts =
+    bind_reads IsNames (Past comma (Behind (t.Ident i) VarAt)) names_at (λ names us. vars_typed n (i ∷ names) us) ts
+    (λ names. record {
+      tokens = some_type.tokens;
+      made = vars (i ∷ names) some_type.made;
+      stands = λ tail us w c. let s = some_type.stands tail in (s.0, d.of_type s.0 (t.Ident i ∷ t.Comma c ∷ us) i names _ _ tail (more i c us names _ w) s.1);
+    })
+    (λ names us o. as_reads (After IsNames VarAt (i ∷ names)) (After IsNames (Past comma (Behind (t.Ident i) VarAt)) names) (vars_typed n (i ∷ names)) us (vars_typed n (i ∷ names) us)
+    (λ vs f rest q ws w c. q (t.Ident i ∷ t.Comma c ∷ ws) (more i c ws names vs w)) (typed_reads n i names us))
+    (names_at ts) (names_reads ts)
+
+first_reads : (n : ℕ) (i : Ident) (ts : List Symbol) → ReadsAt (Behind (t.Ident i) VarAt) (vars_first n i) ts (vars_first n i ts)
+first_reads n i ts =
+    choose_reads is_comma (Behind (t.Ident i) VarAt) comma (vars_more n i) (vars_typed n (i ∷ [])) ts
+    (λ us. like_reads (Past comma (Behind (t.Ident i) VarAt)) (vars_more n i) (flat_vars n i) us (vars_more n i us) (λ r e. vars_is n i r)
+    (subst (ReadsAt (Past comma (Behind (t.Ident i) VarAt)) (flat_vars n i) us) (sym (vars_is n i us)) (flat_reads n i us)))
+    (λ e. as_reads (After IsNames VarAt (i ∷ [])) (Behind (t.Ident i) VarAt) (vars_typed n (i ∷ [])) ts (vars_typed n (i ∷ []) ts) (λ us f rest q. q (t.Ident i ∷ us) (one i us)) (typed_reads n i [] ts))
+
+pub var_reads : (n : ℕ) (ts : List Symbol) → ReadsAt VarAt (var_spec_at n) ts (var_spec_at n ts)
+var_reads n ts =
+    bind_reads IsIdent VarAt ident_at (vars_first n) ts
+    (λ i. record { tokens = some_type.tokens; made = vars (i ∷ []) some_type.made; stands = λ tail us e. let s = some_type.stands tail in rw e (s.0, d.of_type s.0 _ i [] _ _ tail (one i _) s.1) })
+    (λ i us o. as_reads (Behind (t.Ident i) VarAt) (After IsIdent VarAt i) (vars_first n i) us (vars_first n i us) (λ vs x rest w ws e. rw e w) (first_reads n i us))
+    (ident_at ts) (ident_reads ts)
+
+no_var_of : (m : ℕ) (x : Top) (us : List Symbol) → IsVarSpec m [] x us → ⊥
+no_var_of m x us (d.of_type n ts i names vs ty rest a b) = no_names (i ∷ names) vs a
+
+pub no_var : (x : Top) (us : List Symbol) → VarAt [] x us → ⊥
+no_var x us w = no_var_of w.0 x us w.1
+
+-- ---- types
+
+abbrev SpecAt : List Symbol → Top → List Symbol → Type 0
+SpecAt = Any IsTypeSpec
+
+spec_first_reads : (n : ℕ) (i : Ident) (ts : List Symbol) → ReadsAt (Behind (t.Ident i) SpecAt) (type_first n i) ts (type_first n i ts)
+spec_first_reads n i ts =
+    choose_reads is_assign (Behind (t.Ident i) SpecAt) assign (alias_by n i) (defined_by n i) ts
+    (λ us. value_reads TypeAt (Past assign (Behind (t.Ident i) SpecAt)) (type_at n) (λ ty. alias i ty) us (λ vs ty rest w a. (w.0, d.renames w.0 i a vs ty rest w.1)) (type_at n us) (type_reads n us))
+    (λ e. value_reads TypeAt (Behind (t.Ident i) SpecAt) (type_at n) (λ ty. defined i ty) ts (λ vs ty rest w. (w.0, d.defines w.0 i vs ty rest w.1)) (type_at n ts) (type_reads n ts))
+
+pub spec_reads : (n : ℕ) (ts : List Symbol) → ReadsAt SpecAt (type_spec_at n) ts (type_spec_at n ts)
+spec_reads n ts =
+    bind_reads IsIdent SpecAt ident_at (type_first n) ts
+    (λ i. record { tokens = some_type.tokens; made = defined i some_type.made; stands = λ tail us e. let s = some_type.stands tail in rw e (s.0, d.defines s.0 i _ _ tail s.1) })
+    (λ i us o. as_reads (Behind (t.Ident i) SpecAt) (After IsIdent SpecAt i) (type_first n i) us (type_first n i us) (λ vs x rest w ws e. rw e w) (spec_first_reads n i us))
+    (ident_at ts) (ident_reads ts)
+
+no_spec_of : (m : ℕ) (x : Top) (us : List Symbol) → IsTypeSpec m [] x us → ⊥
+no_spec_of m x us w = elim w [ ]
+
+pub no_spec : (x : Top) (us : List Symbol) → SpecAt [] x us → ⊥
+no_spec x us w = no_spec_of w.0 x us w.1
+
+-- ---- rows of declarations
+
+import_same : (f g : List Symbol → Reply (List Import)) (ts : List Symbol) → ((vs : List Symbol) → length vs < length ts → f vs ≡ g vs) → decl_at import_at f ts ≡ decl_at import_at g ts
+import_same f g ts h = decl_same IsImport import_at no_import_here import_reads f g ts h
+
+if_same : {X : Type 0} (b : Bool) (k : Symbol) (f g : List Symbol → Reply X) (x y : Reply X) (ts : List Symbol) → f ts ≡ g ts → x ≡ y → choose (if b then Ok ts else unexpected (k ∷ ts)) f x ≡ choose (if b then Ok ts else unexpected (k ∷ ts)) g y
+if_same true k f g x y ts h e = h
+if_same false k f g x y ts h e = e
+
+choose_same : {X : Type 0} (is : Symbol → Bool) (f g : List Symbol → Reply X) (a b : Reply X) (ts : List Symbol) → ((us : List Symbol) → length us < length ts → f us ≡ g us) → a ≡ b → choose (past is ts) f a ≡ choose (past is ts) g b
+choose_same is f g a b [] h e = e
+choose_same is f g a b (k ∷ ts) h e = if_same (is k) k f g a b ts (h ts (omega arith)) e
+
+pub import_local : Local import_step
+import_local f g ts h = choose_same is_import (decl_at import_at f) (decl_at import_at g) (Ok ([], ts)) (Ok ([], ts)) ts (λ us less. import_same f g us (λ vs fewer. h vs (omega arith))) refl
+
+pub top_local : (n : ℕ) → Local (top_step n)
+top_local n f g ts h =
+    choose_same is_var (decl_at (var_spec_at n) f) (decl_at (var_spec_at n) g) _ _ ts (λ us less. decl_same IsVarSpec (var_spec_at n) no_var (var_reads n) f g us (λ vs fewer. h vs (omega arith)))
+    (choose_same is_type (decl_at (type_spec_at n) f) (decl_at (type_spec_at n) g) (Ok ([], ts)) (Ok ([], ts)) ts (λ us less. decl_same IsTypeSpec (type_spec_at n) no_spec (spec_reads n) f g us (λ vs fewer. h vs (omega arith))) refl)
+
+abbrev ImportsAt : List Symbol → List Import → List Symbol → Type 0
+ImportsAt = Any IsImports
+
+abbrev TopsAt : List Symbol → List Top → List Symbol → Type 0
+TopsAt = Any IsTops
+
+import_step_reads : (later : List Symbol → Reply (List Import)) (ts : List Symbol) → ((vs : List Symbol) → length vs < length ts → ReadsAt ImportsAt later vs (later vs)) → ReadsAt ImportsAt (import_step later) ts (import_step later ts)
+import_step_reads later ts h =
+    choose_reads_on is_import ImportsAt import_word (decl_at import_at later) (λ us. Ok ([], us)) ts
+    (λ us less. decl_reads IsImport import_at no_import_here import_reads ImportsAt (Past import_word ImportsAt) later us
+    (λ vs xs s ws ys rest w v at. (max w.0 v.0, d.imports_too w.0 v.0 at s vs ws xs ys rest w.1 v.1)) (λ rest. (0, d.no_import rest)) (λ vs fewer. h vs (omega arith)))
+    (λ e. done_reads ImportsAt (λ us. Ok ([], us)) ts [] (λ tail. (0, d.no_import tail)) (λ r e'. refl))
+
+top_step_reads : (n : ℕ) (later : List Symbol → Reply (List Top)) (ts : List Symbol) → ((vs : List Symbol) → length vs < length ts → ReadsAt TopsAt later vs (later vs)) → ReadsAt TopsAt (top_step n later) ts (top_step n later ts)
+top_step_reads n later ts h =
+    choose_reads_on is_var TopsAt var_word (decl_at (var_spec_at n) later) (λ us. choose (past is_type us) (decl_at (type_spec_at n) later) (Ok ([], us))) ts
+    (λ us less. decl_reads IsVarSpec (var_spec_at n) no_var (var_reads n) TopsAt (Past var_word TopsAt) later us
+    (λ vs xs s ws ys rest w v at. (max w.0 v.0, d.vars_too w.0 v.0 at s vs ws xs ys rest w.1 v.1)) (λ rest. (0, d.no_top rest)) (λ vs fewer. h vs (omega arith)))
+    (λ e. choose_reads_on is_type TopsAt type_word (decl_at (type_spec_at n) later) (λ us. Ok ([], us)) ts
+    (λ us less. decl_reads IsTypeSpec (type_spec_at n) no_spec (spec_reads n) TopsAt (Past type_word TopsAt) later us
+    (λ vs xs s ws ys rest w v at. (max w.0 v.0, d.types_too w.0 v.0 at s vs ws xs ys rest w.1 v.1)) (λ rest. (0, d.no_top rest)) (λ vs fewer. h vs (omega arith)))
+    (λ e'. done_reads TopsAt (λ us. Ok ([], us)) ts [] (λ tail. (0, d.no_top tail)) (λ r e''. refl)))
+
+pub imports_read : (ts : List Symbol) → ReadsAt ImportsAt imports_at ts (imports_at ts)
+imports_read ts = steps_read ImportsAt import_step import_local import_step_reads ts
+
+pub tops_read : (n : ℕ) (ts : List Symbol) → ReadsAt TopsAt (tops_at n) ts (tops_at n ts)
+tops_read n ts = steps_read TopsAt (top_step n) (top_local n) (top_step_reads n) ts
+
+-- ---- files
+
+abbrev pub FileAt : List Symbol → SourceFile → List Symbol → Type 0
+FileAt = Any IsFileOf
+
+pub file_reads : (n : ℕ) (ts : List Symbol) → ReadsAt FileAt (file_front n) ts (file_front n ts)
+unfolding file_front
+file_reads n ts =
+    past_reads is_package FileAt package_word (file_name n) ts
+    (record { tokens = t.Ident any_ident ∷ t.Semicolon 0 ∷ []; made = source_file any_ident [] []; stands = λ tail at. (0, d.file 0 0 at any_ident 0 tail tail [] [] tail (d.no_import tail) (d.no_top tail)) })
+    (λ k us e. bind_reads IsIdent (Past package_word FileAt) ident_at (file_clause n) us
+    (λ i. record { tokens = t.Semicolon 0 ∷ []; made = source_file i [] []; stands = λ tail vs e at. rw e (0, d.file 0 0 at i 0 tail tail [] [] tail (d.no_import tail) (d.no_top tail)) })
+    (λ i vs o. past_reads is_semicolon (After IsIdent (Past package_word FileAt) i) semicolon (file_imports n i) vs
+    (record { tokens = []; made = source_file i [] []; stands = λ tail s ws e at. rw e (0, d.file 0 0 at i s tail tail [] [] tail (d.no_import tail) (d.no_top tail)) })
+    (λ k' ws e'. bind_reads ImportsAt (Past semicolon (After IsIdent (Past package_word FileAt) i)) imports_at (file_tops n i) ws
+    (λ xs. record { tokens = []; made = source_file i xs []; stands = λ tail vs' w s us' e at. rw e (max w.0 0, d.file w.0 0 at i s vs' tail xs [] tail w.1 (d.no_top tail)) })
+    (λ xs ws' o'. value_reads TopsAt (After ImportsAt (Past semicolon (After IsIdent (Past package_word FileAt) i)) xs) (tops_at n) (λ tops. source_file i xs tops) ws'
+    (λ us' tops rest v vs' w s ys e at. rw e (max w.0 v.0, d.file w.0 v.0 at i s vs' us' xs tops rest w.1 v.1)) (tops_at n ws') (tops_read n ws'))
+    (imports_at ws) (imports_read ws)))
+    (ident_at us) (ident_reads us))
+
+-- ---- specifications take tokens
+
+pub import_eats : Eats import_at
+import_eats = eats_of (Any IsImport) import_at no_import_here import_reads
+
+pub var_eats : (n : ℕ) → Eats (var_spec_at n)
+var_eats n = eats_of (Any IsVarSpec) (var_spec_at n) no_var (var_reads n)
+
+pub type_spec_eats : (n : ℕ) → Eats (type_spec_at n)
+type_spec_eats n = eats_of (Any IsTypeSpec) (type_spec_at n) no_spec (spec_reads n)

@@ -1,0 +1,17 @@
+pub mod Viable
+pub mod Marks
+pub mod Rows
+pub mod NameReads
+pub mod FieldReads
+pub mod TypeReads
+pub mod Turns
+pub mod Agreeing
+pub mod TypeAgain
+pub mod Steps
+pub mod FileReads
+pub mod NameTurns
+pub mod FileAgain
+pub mod Laws
+pub mod StepTurns
+pub mod Answered
+pub mod SpecTurns

@@ -1,0 +1,135 @@
+-- What the reader of types does.
+use Rattle.std.proofs.Common.{◌≡◌, ℕ, zero, suc, max, true, false, List, [], ◌∷◌, Ok, refl, sym, ap, ◌∙◌, ◌-◌, arith}
+use Rattle.go_syntax.specs.declared.symbols.Symbol.{Symbol}
+use Rattle.go_syntax.specs.declared.symbols.Symbol.TheVariants as t
+use Rattle.go_syntax.specs.declared.symbols.Ident.{Ident}
+use Rattle.go_syntax.specs.declared.tree.TypeExpr.{TypeExpr}
+use Rattle.go_syntax.specs.declared.tree.TypeExpr.TheVariants as y
+use Rattle.go_syntax.specs.Reading.{Reply, unexpected, too_deep, starts, is_arrow, is_chan, is_close_paren, is_open_bracket, is_close_bracket, is_open_brace, is_close_brace, row}
+use Rattle.go_syntax.specs.Names.{plain, IsTypeName, own, dotted}
+use Rattle.go_syntax.specs.Grammar as g
+use Rattle.go_syntax.specs.Grammar.{named, IsType}
+use Rattle.go_syntax.specs.Types.{name_by, with_type, paren_end, paren_by, slice_by, map_end, map_inside, map_by, chan_by, receive_by, star_by, star_at, field_by, struct_inside, struct_by, type_by, begins_type, no_type, type_at}
+use Rattle.go_syntax.proofs.Viable.{ReadsAt, Behind, Past, After, done_reads, refuse_next, refuse_end, cons_reads, past_reads, choose_reads, peek_reads, stuck_reads, deep_reads, bind_reads, value_reads, only_reads, starts_same}
+use Rattle.go_syntax.proofs.Marks.{arrow, chan, close_paren, open_bracket, close_bracket, open_brace}
+use Rattle.go_syntax.proofs.NameReads.{any_ident, dotted_reads}
+use Rattle.go_syntax.proofs.FieldReads.{TypeAt, FieldAt, FieldsAt, some_type, no_field, field_reads, fields_read}
+use Rattle.go_syntax.proofs.Rows.{Eats, eats_of}
+
+name_reads : (i : Ident) (ts : List Symbol) → ReadsAt (Behind (t.Ident i) TypeAt) (name_by i) ts (name_by i ts)
+name_reads i ts = value_reads (Behind (t.Ident i) IsTypeName) (Behind (t.Ident i) TypeAt) (dotted i) named ts (λ us x rest w. (1, g.name (t.Ident i ∷ us) x rest w)) (dotted i ts) (dotted_reads i ts)
+
+paren_reads : (inner : List Symbol → Reply TypeExpr) → ((us : List Symbol) → ReadsAt TypeAt inner us (inner us)) → (at : ℕ) (ts : List Symbol) → ReadsAt (Behind (t.OpenParen at) TypeAt) (paren_by inner at) ts (paren_by inner at ts)
+paren_reads inner h at ts =
+    bind_reads TypeAt (Behind (t.OpenParen at) TypeAt) inner (paren_end at) ts
+    (λ ty. record { tokens = t.CloseParen 0 ∷ []; made = y.Paren ty at; stands = λ tail us w. (suc w.0, g.paren w.0 at 0 us ty tail w.1) })
+    (λ ty us o. past_reads is_close_paren (After TypeAt (Behind (t.OpenParen at) TypeAt) ty) close_paren (λ rest. Ok (y.Paren ty at, rest)) us
+    (record { tokens = []; made = y.Paren ty at; stands = λ tail c vs w. (suc w.0, g.paren w.0 at c vs ty tail w.1) })
+    (λ k vs e. done_reads (Past close_paren (After TypeAt (Behind (t.OpenParen at) TypeAt) ty)) (λ rest. Ok (y.Paren ty at, rest)) vs (y.Paren ty at) (λ tail c ws w. (suc w.0, g.paren w.0 at c ws ty tail w.1)) (λ r e'. refl)))
+    (inner ts) (h ts)
+
+slice_reads : (inner : List Symbol → Reply TypeExpr) → ((us : List Symbol) → ReadsAt TypeAt inner us (inner us)) → (at : ℕ) (ts : List Symbol) → ReadsAt (Behind (t.OpenBracket at) TypeAt) (slice_by inner at) ts (slice_by inner at ts)
+slice_reads inner h at ts =
+    past_reads is_close_bracket (Behind (t.OpenBracket at) TypeAt) close_bracket (with_type inner (λ ty. y.Slice ty at)) ts
+    (record { tokens = some_type.tokens; made = y.Slice some_type.made at; stands = λ tail c. let w = some_type.stands tail in (suc w.0, g.slice w.0 at c _ _ tail w.1) })
+    (λ k us e. value_reads TypeAt (Past close_bracket (Behind (t.OpenBracket at) TypeAt)) inner (λ ty. y.Slice ty at) us (λ vs ty rest w c. (suc w.0, g.slice w.0 at c vs ty rest w.1)) (inner us) (h us))
+
+map_reads : (inner : List Symbol → Reply TypeExpr) → ((us : List Symbol) → ReadsAt TypeAt inner us (inner us)) → (at : ℕ) (ts : List Symbol) → ReadsAt (Behind (t.Map at) TypeAt) (map_by inner at) ts (map_by inner at ts)
+map_reads inner h at ts =
+    past_reads is_open_bracket (Behind (t.Map at) TypeAt) open_bracket (map_inside inner at) ts
+    (let s = some_type in record {
+      tokens = t.Ident any_ident ∷ t.CloseBracket 0 ∷ t.Ident any_ident ∷ [];
+      made = y.MapOf (named (plain any_ident)) (named (plain any_ident)) at;
+      stands = λ tail b. (
+        2,
+        g.map_of 1 1 at b 0 _ (named (plain any_ident)) (t.Ident any_ident ∷ tail) (named (plain any_ident)) tail
+            (g.name _ (plain any_ident) _ (own any_ident (t.CloseBracket 0 ∷ t.Ident any_ident ∷ tail))) (g.name _ (plain any_ident) _ (own any_ident tail)),
+      );
+    })
+    (λ k us e. bind_reads TypeAt (Past open_bracket (Behind (t.Map at) TypeAt)) inner (map_end inner at) us
+    (λ key. record {
+      tokens = t.CloseBracket 0 ∷ t.Ident any_ident ∷ [];
+      made = y.MapOf key (named (plain any_ident)) at;
+      stands = λ tail vs w b. (suc (max w.0 1), g.map_of w.0 1 at b 0 vs key (t.Ident any_ident ∷ tail) (named (plain any_ident)) tail w.1 (g.name _ (plain any_ident) _ (own any_ident tail)));
+    })
+    (λ key vs o. past_reads is_close_bracket (After TypeAt (Past open_bracket (Behind (t.Map at) TypeAt)) key) close_bracket (with_type inner (λ ty. y.MapOf key ty at)) vs
+    (record {
+      tokens = t.Ident any_ident ∷ [];
+      made = y.MapOf key (named (plain any_ident)) at;
+      stands = λ tail c ws w b. (suc (max w.0 1), g.map_of w.0 1 at b c ws key (t.Ident any_ident ∷ tail) (named (plain any_ident)) tail w.1 (g.name _ (plain any_ident) _ (own any_ident tail)));
+    })
+    (λ k' ws e'. value_reads TypeAt (Past close_bracket (After TypeAt (Past open_bracket (Behind (t.Map at) TypeAt)) key)) inner (λ ty. y.MapOf key ty at) ws
+    (λ xs ty rest v c ys w b. (suc (max w.0 v.0), g.map_of w.0 v.0 at b c ys key xs ty rest w.1 v.1)) (inner ws) (h ws)))
+    (inner us) (h us))
+
+pub no_type_here : (m : ℕ) (ty : TypeExpr) (us : List Symbol) → IsType m [] ty us → ⊥
+no_type_here m ty us (g.name ts x r a) = elim a [ ]
+
+abbrev Sends : List Symbol → TypeExpr → List Symbol → Type 0
+Sends ts ty rest = (m : ℕ) × IsType m ts ty rest × (starts is_arrow ts ≡ false)
+
+chan_reads : (inner : List Symbol → Reply TypeExpr) → ((us : List Symbol) → ReadsAt TypeAt inner us (inner us)) → (at : ℕ) (ts : List Symbol) → ReadsAt (Behind (t.Chan at) TypeAt) (chan_by inner at) ts (chan_by inner at ts)
+chan_reads inner h at ts =
+    choose_reads is_arrow (Behind (t.Chan at) TypeAt) arrow (with_type inner (λ ty. y.Chan false true ty at)) (with_type inner (λ ty. y.Chan true true ty at)) ts
+    (λ us. value_reads TypeAt (Past arrow (Behind (t.Chan at) TypeAt)) inner (λ ty. y.Chan false true ty at) us (λ vs ty rest w b. (suc w.0, g.send_only w.0 at b vs ty rest w.1)) (inner us) (h us))
+    (λ e. value_reads Sends (Behind (t.Chan at) TypeAt) inner (λ ty. y.Chan true true ty at) ts (λ vs ty rest w. (suc w.0, g.both_ways w.0 at vs ty rest w.2 w.1)) (inner ts)
+    (only_reads TypeAt Sends inner ts
+    (λ k us ty rest a w. (w.0, w.1, sym (starts_same is_arrow ts (k ∷ []) a) ∙ e))
+    (λ ty us w. no_type_here w.0 ty us w.1)
+    (record { tokens = t.Ident any_ident ∷ []; made = named (plain any_ident); stands = λ tail. (1, g.name _ (plain any_ident) tail (own any_ident tail), refl) })
+    (inner ts) (h ts)))
+
+receive_reads : (inner : List Symbol → Reply TypeExpr) → ((us : List Symbol) → ReadsAt TypeAt inner us (inner us)) → (at : ℕ) (ts : List Symbol) → ReadsAt (Behind (t.Arrow at) TypeAt) (receive_by inner at) ts (receive_by inner at ts)
+receive_reads inner h at ts =
+    past_reads is_chan (Behind (t.Arrow at) TypeAt) chan (with_type inner (λ ty. y.Chan true false ty at)) ts
+    (record { tokens = t.Ident any_ident ∷ []; made = y.Chan true false (named (plain any_ident)) at; stands = λ tail b. (2, g.receive_only 1 at b _ (named (plain any_ident)) tail (g.name _ (plain any_ident) tail (own any_ident tail))) })
+    (λ k us e. value_reads TypeAt (Past chan (Behind (t.Arrow at) TypeAt)) inner (λ ty. y.Chan true false ty at) us (λ vs ty rest w b. (suc w.0, g.receive_only w.0 at b vs ty rest w.1)) (inner us) (h us))
+
+struct_reads : (n : ℕ) (inner : List Symbol → Reply TypeExpr) → ((us : List Symbol) → ReadsAt TypeAt inner us (inner us)) → (at : ℕ) (ts : List Symbol) → ReadsAt (Behind (t.Struct at) TypeAt) (struct_by n inner at) ts (struct_by n inner at ts)
+struct_reads n inner h at ts =
+    past_reads is_open_brace (Behind (t.Struct at) TypeAt) open_brace (struct_inside n inner at) ts
+    (record { tokens = t.CloseBrace 0 ∷ []; made = y.Struct [] at; stands = λ tail b. (1, g.struct 0 at b _ [] tail (g.none 0 tail)) })
+    (λ k us e. value_reads FieldsAt (Past open_brace (Behind (t.Struct at) TypeAt)) (row is_close_brace (field_by n inner)) (λ fields. y.Struct fields at) us
+    (λ vs fields rest w b. (suc w.0, g.struct w.0 at b vs fields rest w.1)) (row is_close_brace (field_by n inner) us) (fields_read n inner h us))
+
+type_step : (n : ℕ) (inner : List Symbol → Reply TypeExpr) → ((us : List Symbol) → ReadsAt TypeAt inner us (inner us)) → (ts : List Symbol) → ReadsAt TypeAt (type_by n inner) ts (type_by n inner ts)
+type_step n inner h [] = refuse_end TypeAt (type_by n inner) some_type refl
+type_step n inner h (t.Ident i ∷ ts) = cons_reads TypeAt (type_by n inner) (name_by i) (t.Ident i) ts (name_by i ts) (λ r. refl) (name_reads i ts)
+type_step n inner h (t.OpenParen at ∷ ts) = cons_reads TypeAt (type_by n inner) (paren_by inner at) (t.OpenParen at) ts (paren_by inner at ts) (λ r. refl) (paren_reads inner h at ts)
+type_step n inner h (t.Star at ∷ ts) =
+    cons_reads TypeAt (type_by n inner) (with_type inner (λ ty. y.Pointer ty at)) (t.Star at) ts (with_type inner (λ ty. y.Pointer ty at) ts) (λ r. refl)
+    (value_reads TypeAt (Behind (t.Star at) TypeAt) inner (λ ty. y.Pointer ty at) ts (λ us ty rest w. (suc w.0, g.pointer w.0 at us ty rest w.1)) (inner ts) (h ts))
+type_step n inner h (t.OpenBracket at ∷ ts) = cons_reads TypeAt (type_by n inner) (slice_by inner at) (t.OpenBracket at) ts (slice_by inner at ts) (λ r. refl) (slice_reads inner h at ts)
+type_step n inner h (t.Map at ∷ ts) = cons_reads TypeAt (type_by n inner) (map_by inner at) (t.Map at) ts (map_by inner at ts) (λ r. refl) (map_reads inner h at ts)
+type_step n inner h (t.Chan at ∷ ts) = cons_reads TypeAt (type_by n inner) (chan_by inner at) (t.Chan at) ts (chan_by inner at ts) (λ r. refl) (chan_reads inner h at ts)
+type_step n inner h (t.Arrow at ∷ ts) = cons_reads TypeAt (type_by n inner) (receive_by inner at) (t.Arrow at) ts (receive_by inner at ts) (λ r. refl) (receive_reads inner h at ts)
+type_step n inner h (t.Struct at ∷ ts) = cons_reads TypeAt (type_by n inner) (struct_by n inner at) (t.Struct at) ts (struct_by n inner at ts) (λ r. refl) (struct_reads n inner h at ts)
+type_step n inner h (k ∷ ts) = refuse_next TypeAt (type_by n inner) k ts some_type (λ r. refl)
+
+pub type_reads : (n : ℕ) (ts : List Symbol) → ReadsAt TypeAt (type_at n) ts (type_at n ts)
+unfolding type_at
+type_reads zero ts = peek_reads TypeAt begins_type too_deep unexpected ts (λ s. deep_reads TypeAt ts some_type) (λ s. stuck_reads TypeAt ts some_type)
+type_reads (suc n) ts = type_step n (type_at n) (type_reads n) ts
+
+-- a field takes a token
+pub field_eats : (n : ℕ) → Eats (field_by n (type_at n))
+field_eats n = eats_of FieldAt (field_by n (type_at n)) (λ f us w. no_field w.0 f us w.1) (field_reads n (type_at n) (type_reads n))
+
+-- ---- with a node left or not
+
+pub type_none : (n : ℕ) (ts : List Symbol) → n ≡ 0 → type_at n ts ≡ no_type ts
+unfolding type_at
+type_none zero ts e = refl
+type_none (suc n) ts e = absurd (omega arith)
+
+less_one : (n : ℕ) → suc n - 1 ≡ n
+less_one n = omega arith
+
+pub type_some : (n : ℕ) (ts : List Symbol) → (n ≡ 0 → ⊥) → type_at n ts ≡ type_by (n - 1) (type_at (n - 1)) ts
+unfolding type_at
+type_some zero ts e = absurd (e refl)
+type_some (suc n) ts e = ap (λ m. type_by m (type_at m) ts) (sym (less_one n))
+
+pub star_some : (n at : ℕ) (ts : List Symbol) → (n ≡ 0 → ⊥) → star_at n at ts ≡ star_by (n - 1) at ts
+star_some zero at ts e = absurd (e refl)
+star_some (suc n) at ts e = ap (λ m. star_by m at ts) (sym (less_one n))

@@ -1,0 +1,70 @@
+-- The grammar of declarations and files, a production a case. The number is that of the nodes on a longest path of a tree.
+use Rattle.std.specs.Prelude.{ℕ, max, List, [], ◌∷◌, ◌++◌, Option, Some, None}
+use Rattle.go_syntax.specs.declared.symbols.Symbol.{Symbol}
+use Rattle.go_syntax.specs.declared.symbols.Symbol.TheVariants as t
+use Rattle.go_syntax.specs.declared.symbols.Ident.{Ident}
+use Rattle.go_syntax.specs.declared.symbols.Span.{Span}
+use Rattle.go_syntax.specs.declared.tree.Import.{Import}
+use Rattle.go_syntax.specs.declared.tree.Top.{Top}
+use Rattle.go_syntax.specs.declared.tree.Top.TheVariants as top
+use Rattle.go_syntax.specs.declared.tree.TypeExpr.{TypeExpr}
+use Rattle.go_syntax.specs.declared.tree.SourceFile.{SourceFile}
+use Rattle.go_syntax.specs.Names.{IsNames}
+use Rattle.go_syntax.specs.Grammar.{IsType}
+
+abbrev pub import : Option Ident → Span → Import
+import name path = record { name = name; path = path; at = path.start }
+
+abbrev pub vars : List Ident → TypeExpr → Top
+vars names ty = top.Var (record { names = names; ty = ty })
+
+abbrev pub defined : Ident → TypeExpr → Top
+defined i ty = top.Defined (record { name = i; ty = ty })
+
+abbrev pub alias : Ident → TypeExpr → Top
+alias i ty = top.Alias (record { name = i; ty = ty })
+
+abbrev pub source_file : Ident → List Import → List Top → SourceFile
+source_file i imports tops = record { name = i; imports = imports; tops = tops }
+
+-- ImportSpec = [ identifier ] string_lit
+pub data IsImport : ℕ → List Symbol → Import → List Symbol → Type 0 where
+  plainly : (s : Span) (rest : List Symbol) → IsImport 0 (t.Text s ∷ rest) (import None s) rest
+  named_so : (i : Ident) (s : Span) (rest : List Symbol) → IsImport 0 (t.Ident i ∷ t.Text s ∷ rest) (import (Some i) s) rest
+
+-- VarSpec = IdentifierList Type
+pub data IsVarSpec : ℕ → List Symbol → Top → List Symbol → Type 0 where
+  of_type : (n : ℕ) (ts : List Symbol) (i : Ident) (names : List Ident) (us : List Symbol) (ty : TypeExpr) (rest : List Symbol) → IsNames ts (i ∷ names) us → IsType n us ty rest
+      → IsVarSpec n ts (vars (i ∷ names) ty) rest
+
+-- TypeSpec = identifier [ "=" ] Type
+pub data IsTypeSpec : ℕ → List Symbol → Top → List Symbol → Type 0 where
+  defines : (n : ℕ) (i : Ident) (ts : List Symbol) (ty : TypeExpr) (rest : List Symbol) → IsType n ts ty rest → IsTypeSpec n (t.Ident i ∷ ts) (defined i ty) rest
+  renames : (n : ℕ) (i : Ident) (a : ℕ) (ts : List Symbol) (ty : TypeExpr) (rest : List Symbol) → IsType n ts ty rest → IsTypeSpec n (t.Ident i ∷ t.Assign a ∷ ts) (alias i ty) rest
+
+-- specifications up to the parenthesis that closes; the last semicolon may be left out
+pub data IsBlock {X : Type 0} (F : ℕ → List Symbol → X → List Symbol → Type 0) : ℕ → List Symbol → List X → List Symbol → Type 0 where
+  none_in_block : (c : ℕ) (rest : List Symbol) → IsBlock F 0 (t.CloseParen c ∷ rest) [] rest
+  last_in_block : (n c : ℕ) (ts : List Symbol) (x : X) (rest : List Symbol) → F n ts x (t.CloseParen c ∷ rest) → IsBlock F n ts (x ∷ []) rest
+  more_in_block : (m n s : ℕ) (ts us : List Symbol) (x : X) (xs : List X) (rest : List Symbol) → F m ts x (t.Semicolon s ∷ us) → IsBlock F n us xs rest → IsBlock F (max m n) ts (x ∷ xs) rest
+
+-- one specification, or several in parentheses
+pub data IsGroup {X : Type 0} (F : ℕ → List Symbol → X → List Symbol → Type 0) : ℕ → List Symbol → List X → List Symbol → Type 0 where
+  single : (n : ℕ) (ts : List Symbol) (x : X) (rest : List Symbol) → F n ts x rest → IsGroup F n ts (x ∷ []) rest
+  grouped : (n o : ℕ) (ts : List Symbol) (xs : List X) (rest : List Symbol) → IsBlock F n ts xs rest → IsGroup F n (t.OpenParen o ∷ ts) xs rest
+
+-- { ImportDecl ";" }
+pub data IsImports : ℕ → List Symbol → List Import → List Symbol → Type 0 where
+  no_import : (rest : List Symbol) → IsImports 0 rest [] rest
+  imports_too : (m n at s : ℕ) (ts us : List Symbol) (xs ys : List Import) (rest : List Symbol) → IsGroup IsImport m ts xs (t.Semicolon s ∷ us) → IsImports n us ys rest → IsImports (max m n) (t.Import at ∷ ts) (xs ++ ys) rest
+
+-- { TopLevelDecl ";" }
+pub data IsTops : ℕ → List Symbol → List Top → List Symbol → Type 0 where
+  no_top : (rest : List Symbol) → IsTops 0 rest [] rest
+  vars_too : (m n at s : ℕ) (ts us : List Symbol) (xs ys : List Top) (rest : List Symbol) → IsGroup IsVarSpec m ts xs (t.Semicolon s ∷ us) → IsTops n us ys rest → IsTops (max m n) (t.Var at ∷ ts) (xs ++ ys) rest
+  types_too : (m n at s : ℕ) (ts us : List Symbol) (xs ys : List Top) (rest : List Symbol) → IsGroup IsTypeSpec m ts xs (t.Semicolon s ∷ us) → IsTops n us ys rest → IsTops (max m n) (t.Type at ∷ ts) (xs ++ ys) rest
+
+-- SourceFile = PackageClause ";" { ImportDecl ";" } { TopLevelDecl ";" }
+pub data IsFileOf : ℕ → List Symbol → SourceFile → List Symbol → Type 0 where
+  file : (m n at : ℕ) (i : Ident) (s : ℕ) (ts us : List Symbol) (imports : List Import) (tops : List Top) (rest : List Symbol) → IsImports m ts imports us → IsTops n us tops rest
+      → IsFileOf (max m n) (t.Package at ∷ t.Ident i ∷ t.Semicolon s ∷ ts) (source_file i imports tops) rest

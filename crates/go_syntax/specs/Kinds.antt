@@ -1,0 +1,28 @@
+-- The tests of a token.
+use Rattle.std.specs.Prelude.{Bool}
+use Rattle.go_syntax.specs.declared.symbols.Symbol.{Symbol}
+use Rattle.go_syntax.specs.declared.reading.Kind.{Kind}
+use Rattle.go_syntax.specs.declared.reading.Kind.TheVariants as k
+use Rattle.go_syntax.specs.Reading.{is_ident, is_semicolon, is_comma, is_dot, is_close_paren, is_open_bracket, is_close_bracket, is_open_brace, is_close_brace, is_arrow, is_chan, is_package, is_open_paren, is_assign, is_import, is_var, is_type}
+use Rattle.go_syntax.specs.Types.{begins_type, shows_embedded}
+
+abbrev pub is_of : Kind → Symbol → Bool
+is_of k.Ident = is_ident
+is_of k.Semicolon = is_semicolon
+is_of k.Comma = is_comma
+is_of k.Dot = is_dot
+is_of k.CloseParen = is_close_paren
+is_of k.OpenBracket = is_open_bracket
+is_of k.CloseBracket = is_close_bracket
+is_of k.OpenBrace = is_open_brace
+is_of k.CloseBrace = is_close_brace
+is_of k.Arrow = is_arrow
+is_of k.Chan = is_chan
+is_of k.Package = is_package
+is_of k.OpenParen = is_open_paren
+is_of k.Assign = is_assign
+is_of k.Import = is_import
+is_of k.Var = is_var
+is_of k.Type = is_type
+is_of k.TypeStart = begins_type
+is_of k.EmbeddedEnd = shows_embedded

@@ -1,0 +1,11 @@
+pub mod Reading
+pub mod Names
+pub mod Grammar
+pub mod Types
+pub mod Kinds
+pub mod Decls
+pub mod Files
+pub mod Outcomes
+pub mod Specs
+pub mod Source
+pub mod Parsing

@@ -1,0 +1,68 @@
+-- What the grammar sees of a source's tokens.
+use Rattle.std.specs.Prelude.{ℕ, ◌+◌, ◌-◌, ◌==◌, ◌&&◌, List, length, map, if◌then◌else◌, Option, Some, None, slice_get}
+use Rattle.code_tables.specs.declared.words.Keyword.{Keyword}
+use Rattle.code_tables.specs.declared.words.Keyword.TheVariants as w
+use Rattle.go_lexer.specs.declared.token_kinds.Token.{Token}
+use Rattle.go_lexer.specs.declared.token_kinds.TokenKind.{TokenKind}
+use Rattle.go_lexer.specs.declared.token_kinds.TokenKind.TheVariants as kind
+use Rattle.go_syntax.specs.declared.symbols.Symbol.{Symbol}
+use Rattle.go_syntax.specs.declared.symbols.Symbol.TheVariants as t
+
+abbrev pub keyword_symbol : Keyword → ℕ → Symbol
+keyword_symbol w.Package at = t.Package at
+keyword_symbol w.Import at = t.Import at
+keyword_symbol w.Type at = t.Type at
+keyword_symbol w.Var at = t.Var at
+keyword_symbol w.Chan at = t.Chan at
+keyword_symbol w.Map at = t.Map at
+keyword_symbol w.Struct at = t.Struct at
+keyword_symbol _ at = t.Other at
+
+-- an operator or punctuation of one byte
+abbrev pub single_symbol : ℕ → ℕ → Symbol
+single_symbol b at =
+    if b == 59 then t.Semicolon at
+    else (if b == 44 then t.Comma at
+    else (if b == 46 then t.Dot at
+    else (if b == 61 then t.Assign at
+    else (if b == 40 then t.OpenParen at
+    else (if b == 41 then t.CloseParen at
+    else (if b == 91 then t.OpenBracket at
+    else (if b == 93 then t.CloseBracket at
+    else (if b == 123 then t.OpenBrace at
+    else (if b == 125 then t.CloseBrace at
+    else (if b == 42 then t.Star at
+    else t.Other at))))))))))
+
+-- of two bytes: an arrow, or another
+abbrev pub pair_symbol : ℕ → Option ℕ → ℕ → Symbol
+pair_symbol a (Some b) at = if a == 60 && b == 45 then t.Arrow at else t.Other at
+pair_symbol a None at = t.Other at
+
+-- an operator or punctuation that begins so and has so many bytes
+abbrev pub mark_symbol : ℕ → Option ℕ → Option ℕ → ℕ → Symbol
+mark_symbol len None second at = t.Other at
+mark_symbol len (Some a) second at = if len == 1 then single_symbol a at else (if len == 2 then pair_symbol a second at else t.Other at)
+
+abbrev pub symbol_by : List ℕ → TokenKind → ℕ → ℕ → Symbol
+symbol_by src kind.Ident start end = t.Ident (record { start = start; end = end })
+symbol_by src (kind.Word keyword) start end = keyword_symbol keyword start
+symbol_by src kind.Text start end = t.Text (record { start = start; end = end })
+symbol_by src kind.Inserted start end = t.Semicolon start
+symbol_by src kind.Mark start end = mark_symbol (end - start) (slice_get src start) (slice_get src (start + 1)) start
+symbol_by src _ start end = t.Other start
+
+-- what the grammar sees of a token
+abbrev pub symbol_of : List ℕ → Token → Symbol
+symbol_of src token = symbol_by src token.kind token.start token.end
+
+abbrev pub symbols_of : List ℕ → List Token → List Symbol
+symbols_of src tokens = map (symbol_of src) tokens
+
+-- the place at which so many tokens are left: that of the first of them, or the end of the source
+abbrev pub place_at : ℕ → Option Token → ℕ
+place_at total (Some token) = token.start
+place_at total None = total
+
+abbrev pub place_of : List ℕ → List Token → ℕ → ℕ
+place_of src tokens left = place_at (length src) (slice_get tokens (length tokens - left))

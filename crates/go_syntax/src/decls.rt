@@ -1,0 +1,251 @@
+ghost use Rattle.go_syntax.specs.Reading.{Exactly, Gives, row, is_close_paren};
+ghost use Rattle.go_syntax.specs.Files.{text_at, named_import, import_at, vars_typed, vars_first, type_first, group_at, some_decl, import_decl, top_decl};
+ghost use Rattle.go_syntax.specs.Specs.{spec_of};
+
+use crate::faults::{Fault, Stop};
+use crate::names::more_names;
+use crate::reading::{Kind, ident, past};
+use crate::symbols::{Ident, Span, Symbol};
+use crate::tree::{Import, Top, TypeSpec, VarSpec};
+use crate::types::type_expr;
+use sqlite_items::Items;
+use std::alloc::Global;
+
+/// What a declaration declares.
+#[derive(Clone, Copy)]
+pub(crate) enum Keyword {
+    Var,
+    Type,
+}
+
+/// A string literal.
+fn text(tokens: &[Symbol]) -> Result<(Span, &[Symbol]), Fault>
+    ensures { Exactly (λ x. (x.0, x.1.now)) result (text_at tokens.now) }
+{
+    match tokens {
+        [first, rest @ ..] => match *first {
+            Symbol::Text(text) => Ok((text, rest)),
+            _ => Err(Fault::Unexpected(tokens.len())),
+        },
+        [] => Err(Fault::Unexpected(0)),
+    }
+}
+
+/// An import, after its name.
+fn named_import(name: Ident, tokens: &[Symbol]) -> Result<(Import, &[Symbol]), Fault>
+    ensures { Exactly (λ x. (x.0, x.1.now)) result (named_import name tokens.now) }
+{
+    let (path, rest) = text(tokens)?;
+    let import = Import {
+        name: Some(name),
+        path,
+        at: path.start,
+    };
+    Ok((import, rest))
+}
+
+/// An import, after the keyword or in a group.
+fn import_spec(tokens: &[Symbol]) -> Result<(Import, &[Symbol]), Fault>
+    ensures { Exactly (λ x. (x.0, x.1.now)) result (import_at tokens.now) }
+{
+    match tokens {
+        [first, rest @ ..] => match *first {
+            Symbol::Text(path) => {
+                let import = Import {
+                    name: None,
+                    path,
+                    at: path.start,
+                };
+                Ok((import, rest))
+            }
+            Symbol::Ident(name) => named_import(name, rest),
+            Symbol::Dot(_) => Err(Fault::DotImport(tokens.len())),
+            _ => Err(Fault::Unexpected(tokens.len())),
+        },
+        [] => Err(Fault::Unexpected(0)),
+    }
+}
+
+/// The type of variables, after their names.
+fn typed_vars(
+    alloc: Global,
+    names: Items<Ident>,
+    tokens: &[Symbol],
+    left: usize,
+) -> Result<(Top, &[Symbol]), Stop>
+    ensures { Gives (λ x. (x.0, x.1.now)) result (vars_typed left names tokens.now) }
+{
+    let (ty, rest) = type_expr(alloc, tokens, left)?;
+    Ok((Top::Var(VarSpec { names, ty }), rest))
+}
+
+/// Variables, after their first name.
+fn first_var(
+    alloc: Global,
+    first: Ident,
+    tokens: &[Symbol],
+    left: usize,
+) -> Result<(Top, &[Symbol]), Stop>
+    ensures { Gives (λ x. (x.0, x.1.now)) result (vars_first left first tokens.now) }
+{
+    if let Ok(rest) = past(Kind::Comma, tokens) {
+        let (names, rest) = more_names(alloc, first, rest)?;
+        return typed_vars(alloc, names, rest, left);
+    }
+    let mut names = Items::new(alloc);
+    names.push(first)?;
+    typed_vars(alloc, names, tokens, left)
+}
+
+/// A declared type, after its name.
+fn first_type(
+    alloc: Global,
+    name: Ident,
+    tokens: &[Symbol],
+    left: usize,
+) -> Result<(Top, &[Symbol]), Stop>
+    ensures { Gives (λ x. (x.0, x.1.now)) result (type_first left name tokens.now) }
+{
+    if let Ok(rest) = past(Kind::Assign, tokens) {
+        let (ty, rest) = type_expr(alloc, rest, left)?;
+        return Ok((Top::Alias(TypeSpec { name, ty }), rest));
+    }
+    let (ty, rest) = type_expr(alloc, tokens, left)?;
+    Ok((Top::Defined(TypeSpec { name, ty }), rest))
+}
+
+/// A specification of this kind.
+fn one_spec(
+    alloc: Global,
+    keyword: Keyword,
+    tokens: &[Symbol],
+    left: usize,
+) -> Result<(Top, &[Symbol]), Stop>
+    ensures { Gives (λ x. (x.0, x.1.now)) result (spec_of keyword left tokens.now) }
+{
+    let (first, rest) = ident(tokens)?;
+    match keyword {
+        Keyword::Var => first_var(alloc, first, rest, left),
+        Keyword::Type => first_type(alloc, first, rest, left),
+    }
+}
+
+/// The imports of a group, after its parenthesis.
+fn import_block(alloc: Global, tokens: &[Symbol]) -> Result<(Items<Import>, &[Symbol]), Stop>
+    ensures { Gives (λ x. (x.0, x.1.now)) result (row is_close_paren import_at tokens.now) }
+{
+    let mut found = Items::new(alloc);
+    let mut rest = tokens;
+    loop {
+        if let Ok(after) = past(Kind::CloseParen, rest) {
+            return Ok((found, after));
+        }
+        let (import, behind) = import_spec(rest)?;
+        found.push(import)?;
+        if let Ok(after) = past(Kind::CloseParen, behind) {
+            return Ok((found, after));
+        }
+        rest = past(Kind::Semicolon, behind)?;
+    }
+}
+
+/// The specifications of a group, after its parenthesis.
+fn spec_block(
+    alloc: Global,
+    keyword: Keyword,
+    tokens: &[Symbol],
+    left: usize,
+) -> Result<(Items<Top>, &[Symbol]), Stop>
+    ensures { Gives (λ x. (x.0, x.1.now)) result (row is_close_paren (spec_of keyword left) tokens.now) }
+{
+    let mut found = Items::new(alloc);
+    let mut rest = tokens;
+    loop {
+        if let Ok(after) = past(Kind::CloseParen, rest) {
+            return Ok((found, after));
+        }
+        let (spec, behind) = one_spec(alloc, keyword, rest, left)?;
+        found.push(spec)?;
+        if let Ok(after) = past(Kind::CloseParen, behind) {
+            return Ok((found, after));
+        }
+        rest = past(Kind::Semicolon, behind)?;
+    }
+}
+
+/// One import, or a group of them.
+fn import_group(alloc: Global, tokens: &[Symbol]) -> Result<(Items<Import>, &[Symbol]), Stop>
+    ensures { Gives (λ x. (x.0, x.1.now)) result (group_at import_at tokens.now) }
+{
+    if let Ok(rest) = past(Kind::OpenParen, tokens) {
+        return import_block(alloc, rest);
+    }
+    let (import, rest) = import_spec(tokens)?;
+    let mut imports = Items::new(alloc);
+    imports.push(import)?;
+    Ok((imports, rest))
+}
+
+/// One specification, or a group of them.
+fn spec_group(
+    alloc: Global,
+    keyword: Keyword,
+    tokens: &[Symbol],
+    left: usize,
+) -> Result<(Items<Top>, &[Symbol]), Stop>
+    ensures { Gives (λ x. (x.0, x.1.now)) result (group_at (spec_of keyword left) tokens.now) }
+{
+    if let Ok(rest) = past(Kind::OpenParen, tokens) {
+        return spec_block(alloc, keyword, rest, left);
+    }
+    let (spec, rest) = one_spec(alloc, keyword, tokens, left)?;
+    let mut specs = Items::new(alloc);
+    specs.push(spec)?;
+    Ok((specs, rest))
+}
+
+/// An import declaration with its semicolon, if one comes next.
+pub(crate) fn import_decl(
+    alloc: Global,
+    tokens: &[Symbol],
+) -> Result<(Option<Items<Import>>, &[Symbol]), Stop>
+    ensures { Gives (λ x. (x.0, x.1.now)) result (import_decl tokens.now) }
+{
+    if let Ok(rest) = past(Kind::Import, tokens) {
+        let (imports, rest) = import_group(alloc, rest)?;
+        let rest = past(Kind::Semicolon, rest)?;
+        return Ok((Some(imports), rest));
+    }
+    Ok((None, tokens))
+}
+
+/// The specifications after a keyword, with their semicolon.
+fn spec_decl(
+    alloc: Global,
+    keyword: Keyword,
+    tokens: &[Symbol],
+    left: usize,
+) -> Result<(Option<Items<Top>>, &[Symbol]), Stop>
+    ensures { Gives (λ x. (x.0, x.1.now)) result (some_decl (spec_of keyword left) tokens.now) }
+{
+    let (specs, rest) = spec_group(alloc, keyword, tokens, left)?;
+    let rest = past(Kind::Semicolon, rest)?;
+    Ok((Some(specs), rest))
+}
+
+/// A declaration with its semicolon, if one comes next.
+pub(crate) fn top_decl(
+    alloc: Global,
+    tokens: &[Symbol],
+    left: usize,
+) -> Result<(Option<Items<Top>>, &[Symbol]), Stop>
+    ensures { Gives (λ x. (x.0, x.1.now)) result (top_decl left tokens.now) }
+{
+    if let Ok(rest) = past(Kind::Var, tokens) {
+        return spec_decl(alloc, Keyword::Var, rest, left);
+    }
+    if let Ok(rest) = past(Kind::Type, tokens) {
+        return spec_decl(alloc, Keyword::Type, rest, left);
+    }
+    Ok((None, tokens))
+}

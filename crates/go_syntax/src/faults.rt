@@ -1,0 +1,17 @@
+/// Where reading stops, told by how many tokens are left.
+#[derive(Clone, Copy, Debug, PartialEq, Eq)]
+pub enum Fault {
+    /// With the next token the tokens begin no file.
+    Unexpected(usize),
+    /// With the next token a path of the tree is too long.
+    Deep(usize),
+    /// The import of a package's names.
+    DotImport(usize),
+}
+
+/// Why a reader gives no tree.
+#[derive(Clone, Copy, Debug, PartialEq, Eq)]
+pub enum Stop {
+    OutOfMemory,
+    At(Fault),
+}

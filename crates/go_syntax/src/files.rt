@@ -1,0 +1,75 @@
+ghost use Rattle.go_syntax.specs.Reading.{Gives};
+ghost use Rattle.go_syntax.specs.Files.{imports_at, tops_at, file_front, file_at};
+
+use crate::decls::{import_decl, top_decl};
+use crate::faults::{Fault, Stop};
+use crate::reading::{Kind, ident, past};
+use crate::symbols::Symbol;
+use crate::tree::{Import, SourceFile, Top};
+use sqlite_items::Items;
+use std::alloc::Global;
+
+/// The imports of a file.
+fn imports(alloc: Global, tokens: &[Symbol]) -> Result<(Items<Import>, &[Symbol]), Stop>
+    ensures { Gives (λ x. (x.0, x.1.now)) result (imports_at tokens.now) }
+{
+    let mut found = Items::new(alloc);
+    let mut rest = tokens;
+    loop {
+        let (decl, after) = import_decl(alloc, rest)?;
+        let Some(more) = decl else {
+            return Ok((found, after));
+        };
+        found.append(more)?;
+        rest = after;
+    }
+}
+
+/// The declarations of a file.
+fn tops(alloc: Global, tokens: &[Symbol], left: usize) -> Result<(Items<Top>, &[Symbol]), Stop>
+    ensures { Gives (λ x. (x.0, x.1.now)) result (tops_at left tokens.now) }
+{
+    let mut found = Items::new(alloc);
+    let mut rest = tokens;
+    loop {
+        let (decl, after) = top_decl(alloc, rest, left)?;
+        let Some(more) = decl else {
+            return Ok((found, after));
+        };
+        found.append(more)?;
+        rest = after;
+    }
+}
+
+/// A file's package clause, imports and declarations, and the tokens after them.
+#[tactic(auto, unfolding(crate::specs::Files::file_front))]
+fn file_front(
+    alloc: Global,
+    tokens: &[Symbol],
+    left: usize,
+) -> Result<(SourceFile, &[Symbol]), Stop>
+    ensures { Gives (λ x. (x.0, x.1.now)) result (file_front left tokens.now) }
+{
+    let rest = past(Kind::Package, tokens)?;
+    let (name, rest) = ident(rest)?;
+    let rest = past(Kind::Semicolon, rest)?;
+    let (imports, rest) = imports(alloc, rest)?;
+    let (tops, rest) = tops(alloc, rest, left)?;
+    let file = SourceFile {
+        name,
+        imports,
+        tops,
+    };
+    Ok((file, rest))
+}
+
+/// The file that these tokens are, as the reading of lists has it.
+pub(crate) fn read_file(alloc: Global, tokens: &[Symbol], left: usize) -> Result<SourceFile, Stop>
+    ensures { Gives (λ f. f) result (file_at left tokens.now) }
+{
+    let (file, rest) = file_front(alloc, tokens, left)?;
+    match rest {
+        [] => Ok(file),
+        [_, ..] => Err(Stop::At(Fault::Unexpected(rest.len()))),
+    }
+}

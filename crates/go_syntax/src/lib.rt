@@ -1,0 +1,20 @@
+//! The declarations of a Go file as a tree, or the first fault at its place.
+#![tactic(auto)]
+
+mod decls;
+mod faults;
+mod files;
+mod names;
+mod parsing;
+mod reading;
+mod source;
+mod symbols;
+mod tree;
+mod types;
+
+pub use parsing::{SyntaxFault, What, parse};
+pub use symbols::{Ident, Span};
+pub use tree::{FieldExpr, Import, NameExpr, SourceFile, Top, TypeExpr, TypeSpec, VarSpec};
+
+#[cfg(test)]
+mod tests;

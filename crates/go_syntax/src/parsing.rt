@@ -1,0 +1,105 @@
+ghost use Rattle.std.specs.Prelude.{◌≡◌, ◌≤◌, ℕ, [], length, IfOk, IfErr};
+ghost use Rattle.go_syntax.specs.Reading.{Gives};
+ghost use Rattle.go_syntax.specs.Files.{file_at};
+ghost use Rattle.go_syntax.specs.Decls.{IsFileOf};
+ghost use Rattle.go_syntax.specs.Outcomes.{IsFile};
+ghost use Rattle.go_syntax.specs.Source.{symbols_of, place_of};
+ghost use Rattle.go_syntax.specs.Parsing.{fault_of, answer_of, Tells, Answers};
+ghost use Rattle.go_syntax.specs.declared.tree.SourceFile.{SourceFile};
+
+use crate::faults::{Fault, Stop};
+use crate::files::read_file;
+use crate::source::symbols;
+use crate::tree::SourceFile;
+use go_lexer::Token;
+use std::alloc::Global;
+
+/// What a fault says that is left out.
+#[derive(Clone, Copy, Debug, PartialEq, Eq)]
+pub enum What {
+    /// An import of all the names of a package.
+    DotImport,
+    /// A path of more than 1,000 nodes in the tree of a type.
+    Depth,
+}
+
+/// Why a file has no tree, and the byte at which this is met.
+#[derive(Clone, Copy, Debug, PartialEq, Eq)]
+pub enum SyntaxFault {
+    /// With the token there the tokens begin no file. At the length of the source, they begin one, and are none.
+    Unexpected { at: u32 },
+    /// With the token there the file has what is left out.
+    LeftOut { at: u32, what: What },
+    /// There is not enough memory for the tree.
+    OutOfMemory,
+}
+
+/// The place at which this many tokens are left.
+fn place(src: &[u8], tokens: &[Token], left: usize) -> u32
+    requires { length src.now ≤ 4194304 }
+    ensures { result ≡ place_of src.now tokens.now left }
+{
+    match tokens.get(tokens.len().saturating_sub(left)) {
+        Some(token) => token.start,
+        None => src.len() as u32,
+    }
+}
+
+/// A fault at its place in the source.
+fn fault_of(src: &[u8], tokens: &[Token], fault: Fault) -> SyntaxFault
+    requires { length src.now ≤ 4194304 }
+    ensures { result ≡ fault_of src.now tokens.now fault }
+{
+    match fault {
+        Fault::Unexpected(left) => SyntaxFault::Unexpected {
+            at: place(src, tokens, left),
+        },
+        Fault::Deep(left) => SyntaxFault::LeftOut {
+            at: place(src, tokens, left),
+            what: What::Depth,
+        },
+        Fault::DotImport(left) => SyntaxFault::LeftOut {
+            at: place(src, tokens, left),
+            what: What::DotImport,
+        },
+    }
+}
+
+/// The file that the tokens of a source are, or where reading stops.
+fn read_source(alloc: Global, src: &[u8], tokens: &[Token]) -> Result<SourceFile, Stop>
+    ensures { Gives (λ f. f) result (file_at 1000 (symbols_of src.now tokens.now)) }
+{
+    let symbols = symbols(alloc, src, tokens)?;
+    read_file(alloc, &symbols, 1000)
+}
+
+/// What is answered of a reading.
+fn answer_of(
+    src: &[u8],
+    tokens: &[Token],
+    read: Result<SourceFile, Stop>,
+) -> Result<SourceFile, SyntaxFault>
+    requires { length src.now ≤ 4194304 }
+    ensures { result ≡ answer_of src.now tokens.now read }
+{
+    match read {
+        Ok(file) => Ok(file),
+        Err(Stop::OutOfMemory) => Err(SyntaxFault::OutOfMemory),
+        Err(Stop::At(fault)) => Err(fault_of(src, tokens, fault)),
+    }
+}
+
+/// The tree of a file, whose tokens these are. It takes time in proportion to the tokens.
+pub fn parse(alloc: Global, src: &[u8], tokens: &[Token]) -> Result<SourceFile, SyntaxFault>
+    requires { length src.now ≤ 4194304 }
+    // The tokens are the file that is answered.
+    ensures found { IfOk result (λ f. IsFile (symbols_of src.now tokens.now) f) }
+    // A file with no path of more than 1,000 nodes is answered, unless memory ran out, and no other.
+    ensures only { (m : ℕ) (f : SourceFile) → IsFileOf m (symbols_of src.now tokens.now) f [] → m ≤ 1000 → Answers result f }
+    // No path of what is answered is longer.
+    ensures within { IfOk result (λ x. (m : ℕ) (f : SourceFile) → IsFileOf m (symbols_of src.now tokens.now) f [] → m ≤ 1000) }
+    // Each fault stands where it says.
+    ensures place { IfErr result (λ s. Tells src.now tokens.now s) }
+{
+    answer_of(src, tokens, read_source(alloc, src, tokens))
+}

@@ -1,0 +1,157 @@
+ghost use Rattle.std.specs.Prelude.{◌≡◌, Ok, Err};
+ghost use Rattle.go_syntax.specs.Reading.{past, starts, Exactly};
+ghost use Rattle.go_syntax.specs.Kinds.{is_of};
+ghost use Rattle.go_syntax.specs.Names.{ident_at};
+
+use crate::faults::{Fault, Stop};
+use crate::symbols::{Ident, Symbol};
+use std::alloc::{AllocError, AllocFailed};
+
+impl From<Fault> for Stop {
+    ghost use Rattle.go_syntax.specs.declared.faults.Stop.TheVariants.{At};
+
+    ghost from_gives = { λ f s. s ≡ At f };
+
+    fn from(fault: Fault) -> Stop {
+        Stop::At(fault)
+    }
+}
+
+impl From<AllocError> for Stop {
+    ghost use Rattle.go_syntax.specs.declared.faults.Stop.TheVariants.{OutOfMemory};
+
+    ghost from_gives = { λ _ s. s ≡ OutOfMemory };
+
+    fn from(_error: AllocError) -> Stop {
+        Stop::OutOfMemory
+    }
+}
+
+impl<T: Drop> From<AllocFailed<T>> for Stop {
+    ghost use Rattle.go_syntax.specs.declared.faults.Stop.TheVariants.{OutOfMemory};
+
+    ghost from_gives = { λ _ s. s ≡ OutOfMemory };
+
+    fn from(_failure: AllocFailed<T>) -> Stop {
+        Stop::OutOfMemory
+    }
+}
+
+/// A test of a token.
+#[derive(Clone, Copy)]
+pub(crate) enum Kind {
+    Ident,
+    Semicolon,
+    Comma,
+    Dot,
+    CloseParen,
+    OpenBracket,
+    CloseBracket,
+    OpenBrace,
+    CloseBrace,
+    Arrow,
+    Chan,
+    Package,
+    OpenParen,
+    Assign,
+    Import,
+    Var,
+    Type,
+    /// The first token of a type.
+    TypeStart,
+    /// The token that shows that the identifier before it is an embedded type.
+    EmbeddedEnd,
+}
+
+/// Whether a type begins with this token.
+fn begins_type(symbol: Symbol) -> bool
+    ensures { result ≡ is_of Kind.TypeStart symbol }
+{
+    matches!(
+        symbol,
+        Symbol::Ident(_)
+            | Symbol::OpenParen(_)
+            | Symbol::Star(_)
+            | Symbol::OpenBracket(_)
+            | Symbol::Map(_)
+            | Symbol::Chan(_)
+            | Symbol::Arrow(_)
+            | Symbol::Struct(_)
+    )
+}
+
+/// Whether this token shows that the identifier before it is an embedded type.
+fn shows_embedded(symbol: Symbol) -> bool
+    ensures { result ≡ is_of Kind.EmbeddedEnd symbol }
+{
+    matches!(
+        symbol,
+        Symbol::Dot(_) | Symbol::Semicolon(_) | Symbol::CloseBrace(_) | Symbol::Text(_)
+    )
+}
+
+/// Whether a token is of this kind.
+fn is_of(kind: Kind, symbol: Symbol) -> bool
+    ensures { result ≡ is_of kind symbol }
+{
+    match kind {
+        Kind::Ident => matches!(symbol, Symbol::Ident(_)),
+        Kind::Semicolon => matches!(symbol, Symbol::Semicolon(_)),
+        Kind::Comma => matches!(symbol, Symbol::Comma(_)),
+        Kind::Dot => matches!(symbol, Symbol::Dot(_)),
+        Kind::CloseParen => matches!(symbol, Symbol::CloseParen(_)),
+        Kind::OpenBracket => matches!(symbol, Symbol::OpenBracket(_)),
+        Kind::CloseBracket => matches!(symbol, Symbol::CloseBracket(_)),
+        Kind::OpenBrace => matches!(symbol, Symbol::OpenBrace(_)),
+        Kind::CloseBrace => matches!(symbol, Symbol::CloseBrace(_)),
+        Kind::Arrow => matches!(symbol, Symbol::Arrow(_)),
+        Kind::Chan => matches!(symbol, Symbol::Chan(_)),
+        Kind::Package => matches!(symbol, Symbol::Package(_)),
+        Kind::OpenParen => matches!(symbol, Symbol::OpenParen(_)),
+        Kind::Assign => matches!(symbol, Symbol::Assign(_)),
+        Kind::Import => matches!(symbol, Symbol::Import(_)),
+        Kind::Var => matches!(symbol, Symbol::Var(_)),
+        Kind::Type => matches!(symbol, Symbol::Type(_)),
+        Kind::TypeStart => begins_type(symbol),
+        Kind::EmbeddedEnd => shows_embedded(symbol),
+    }
+}
+
+/// The tokens after one of this kind.
+pub(crate) fn past(kind: Kind, tokens: &[Symbol]) -> Result<&[Symbol], Fault>
+    ensures { Exactly (λ x. x.now) result (past (is_of kind) tokens.now) }
+{
+    match tokens {
+        [first, rest @ ..] => {
+            if is_of(kind, *first) {
+                Ok(rest)
+            } else {
+                Err(Fault::Unexpected(tokens.len()))
+            }
+        }
+        [] => Err(Fault::Unexpected(0)),
+    }
+}
+
+/// Whether a token of this kind comes next.
+pub(crate) fn starts(kind: Kind, tokens: &[Symbol]) -> bool
+    ensures { result ≡ starts (is_of kind) tokens.now }
+{
+    match tokens {
+        [first, ..] => is_of(kind, *first),
+        [] => false,
+    }
+}
+
+/// The identifier at the front, and the tokens after it.
+pub(crate) fn ident(tokens: &[Symbol]) -> Result<(Ident, &[Symbol]), Fault>
+    ensures { Exactly (λ x. (x.0, x.1.now)) result (ident_at tokens.now) }
+{
+    match tokens {
+        [first, rest @ ..] => match *first {
+            Symbol::Ident(name) => Ok((name, rest)),
+            _ => Err(Fault::Unexpected(tokens.len())),
+        },
+        [] => Err(Fault::Unexpected(0)),
+    }
+}

@@ -1,0 +1,134 @@
+ghost use Rattle.std.specs.Prelude.{◌≡◌, ◌+◌, ◌-◌, IfOk, slice_get};
+ghost use Rattle.go_syntax.specs.Source.{keyword_symbol, single_symbol, pair_symbol, mark_symbol, symbol_of, symbols_of};
+
+use crate::symbols::{Ident, Span, Symbol};
+use code_tables::Keyword;
+use go_lexer::{Token, TokenKind};
+use std::alloc::{AllocError, Global};
+
+/// What the grammar sees of a keyword.
+fn keyword_symbol(keyword: Keyword, at: u32) -> Symbol
+    ensures { result ≡ keyword_symbol keyword at }
+{
+    match keyword {
+        Keyword::Package => Symbol::Package(at),
+        Keyword::Import => Symbol::Import(at),
+        Keyword::Type => Symbol::Type(at),
+        Keyword::Var => Symbol::Var(at),
+        Keyword::Chan => Symbol::Chan(at),
+        Keyword::Map => Symbol::Map(at),
+        Keyword::Struct => Symbol::Struct(at),
+        _ => Symbol::Other(at),
+    }
+}
+
+/// What the grammar sees of an operator or punctuation of one byte.
+fn single_symbol(byte: u8, at: u32) -> Symbol
+    ensures { result ≡ single_symbol byte at }
+{
+    if byte == b';' {
+        Symbol::Semicolon(at)
+    } else if byte == b',' {
+        Symbol::Comma(at)
+    } else if byte == b'.' {
+        Symbol::Dot(at)
+    } else if byte == b'=' {
+        Symbol::Assign(at)
+    } else if byte == b'(' {
+        Symbol::OpenParen(at)
+    } else if byte == b')' {
+        Symbol::CloseParen(at)
+    } else if byte == b'[' {
+        Symbol::OpenBracket(at)
+    } else if byte == b']' {
+        Symbol::CloseBracket(at)
+    } else if byte == b'{' {
+        Symbol::OpenBrace(at)
+    } else if byte == b'}' {
+        Symbol::CloseBrace(at)
+    } else if byte == b'*' {
+        Symbol::Star(at)
+    } else {
+        Symbol::Other(at)
+    }
+}
+
+/// What the grammar sees of an operator of two bytes.
+fn pair_symbol(first: u8, second: Option<u8>, at: u32) -> Symbol
+    ensures { result ≡ pair_symbol first second at }
+{
+    match second {
+        Some(second) => {
+            if first == b'<' && second == b'-' {
+                Symbol::Arrow(at)
+            } else {
+                Symbol::Other(at)
+            }
+        }
+        None => Symbol::Other(at),
+    }
+}
+
+/// What the grammar sees of an operator or punctuation of this length.
+fn mark_symbol(len: u32, first: Option<u8>, second: Option<u8>, at: u32) -> Symbol
+    ensures { result ≡ mark_symbol len first second at }
+{
+    match first {
+        Some(first) => {
+            if len == 1 {
+                single_symbol(first, at)
+            } else if len == 2 {
+                pair_symbol(first, second, at)
+            } else {
+                Symbol::Other(at)
+            }
+        }
+        None => Symbol::Other(at),
+    }
+}
+
+/// The byte at a place, if one stands there.
+fn byte_at(src: &[u8], at: usize) -> Option<u8>
+    ensures { result ≡ slice_get src.now at }
+{
+    src.get(at).copied()
+}
+
+/// What the grammar sees of the operator or punctuation at a span.
+fn mark_at(src: &[u8], start: u32, end: u32) -> Symbol
+    ensures { result ≡ mark_symbol (end - start) (slice_get src.now start) (slice_get src.now (start + 1)) start }
+{
+    let len = end.saturating_sub(start);
+    let first = byte_at(src, start as usize);
+    let second = byte_at(src, start as usize + 1);
+    mark_symbol(len, first, second, start)
+}
+
+/// What the grammar sees of a token.
+fn symbol_of(src: &[u8], token: Token) -> Symbol
+    ensures { result ≡ symbol_of src.now token }
+{
+    let Token { kind, start, end } = token;
+    match kind {
+        TokenKind::Ident => Symbol::Ident(Ident { start, end }),
+        TokenKind::Word(keyword) => keyword_symbol(keyword, start),
+        TokenKind::Text => Symbol::Text(Span { start, end }),
+        TokenKind::Inserted => Symbol::Semicolon(start),
+        TokenKind::Mark => mark_at(src, start, end),
+        _ => Symbol::Other(start),
+    }
+}
+
+/// What the grammar sees of the tokens.
+pub(crate) fn symbols(
+    alloc: Global,
+    src: &[u8],
+    tokens: &[Token],
+) -> Result<Vec<Symbol>, AllocError>
+    ensures { IfOk result (λ v. v.items ≡ symbols_of src.now tokens.now) }
+{
+    tokens
+        .iter()
+        .map(|token| symbol_of(src, *token))
+        .collect(alloc)
+}

@@ -1,0 +1,96 @@
+use crate::symbols::{Ident, Span};
+use sqlite_items::{Boxed, Items};
+
+/// The name of a type, of this package or of another. It begins at `at`.
+#[derive(Clone, Copy, Debug, PartialEq, Eq)]
+pub struct NameExpr {
+    pub package: Option<Ident>,
+    pub name: Ident,
+    pub at: u32,
+}
+
+/// Fields of a struct that share a type, or an embedded field, which has no names.
+#[cycle(syntax)]
+#[derive(Debug, Drop)]
+pub struct FieldExpr {
+    pub names: Items<Ident>,
+    pub ty: TypeExpr,
+    pub tag: Option<Span>,
+    pub at: u32,
+}
+
+/// A type as it is written. It begins at `at`.
+#[cycle(syntax)]
+#[derive(Debug, Drop)]
+pub enum TypeExpr {
+    Name {
+        name: NameExpr,
+        at: u32,
+    },
+    Paren {
+        ty: Boxed<TypeExpr>,
+        at: u32,
+    },
+    Pointer {
+        ty: Boxed<TypeExpr>,
+        at: u32,
+    },
+    Slice {
+        ty: Boxed<TypeExpr>,
+        at: u32,
+    },
+    MapOf {
+        key: Boxed<TypeExpr>,
+        ty: Boxed<TypeExpr>,
+        at: u32,
+    },
+    /// A channel that can be received from, sent to, or both.
+    Chan {
+        receive: bool,
+        send: bool,
+        ty: Boxed<TypeExpr>,
+        at: u32,
+    },
+    Struct {
+        fields: Items<FieldExpr>,
+        at: u32,
+    },
+}
+
+/// An import. Its path begins at `at`.
+#[derive(Clone, Copy, Debug, PartialEq, Eq)]
+pub struct Import {
+    pub name: Option<Ident>,
+    pub path: Span,
+    pub at: u32,
+}
+
+/// Variables that share a type.
+#[derive(Debug, Drop)]
+pub struct VarSpec {
+    pub names: Items<Ident>,
+    pub ty: TypeExpr,
+}
+
+/// A declared type.
+#[derive(Debug, Drop)]
+pub struct TypeSpec {
+    pub name: Ident,
+    pub ty: TypeExpr,
+}
+
+/// A declaration at the top of a file.
+#[derive(Debug, Drop)]
+pub enum Top {
+    Var(VarSpec),
+    Defined(TypeSpec),
+    Alias(TypeSpec),
+}
+
+/// A file's package clause, imports and declarations, in the order of the source.
+#[derive(Debug, Drop)]
+pub struct SourceFile {
+    pub name: Ident,
+    pub imports: Items<Import>,
+    pub tops: Items<Top>,
+}
