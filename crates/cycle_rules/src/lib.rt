@@ -8,3 +8,6 @@ mod shapes;
 
 pub use cycles::{CycleFault, CycleKind, Ranks, check_cycles, ranks_exclude_cycles};
 pub use shapes::{Form, Shape};
+
+#[cfg(test)]
+mod tests;
