@@ -1,4 +1,3 @@
 pub mod NodesExact
 pub mod Insertions
 pub mod Searches
-pub mod OnePackage

@@ -10,7 +10,7 @@ use Rattle.std.proofs.Math.Nat.{eq-or-lt_of_le}
 use Rattle.std.specs.Map.{lookup}
 use Rattle.code_tables.proofs.Exact.{exact_bytes}
 use Rattle.type_terms.specs.Trees.{Text}
-use Rattle.type_terms.specs.Packages.{Named, IsRising, package_decl}
+use Rattle.type_terms.specs.Packages.{Named, name_of, IsRising, package_decl}
 
 abbrev pub order : Text → Text → Ordering
 order = slice_cmp nat_cmp
@@ -26,7 +26,7 @@ less_from_greater Less e = refl
 less_from_greater Equal e = (cc)
 less_from_greater Greater e = (cc)
 
-module _ (decls : List Named) (rises : IsRising decls) (name : Text) (m : ℕ) (own : Named) (here : slice_get decls m ≡ Some own) where
+module _ (decls : List Named) (rises : IsRising name_of decls) (name : Text) (m : ℕ) (own : Named) (here : slice_get decls m ≡ Some own) where
   pub less_more : order own.0 name ≡ Less → LessBelow decls name (m + 1)
   less_more less k x below there = by (eq-or-lt_of_le (let near : k ≤ m = omega arith in near))
     where
@@ -97,7 +97,7 @@ search_none decls name low high met less greater =
     by k own there (inl below) = less_apart (order own.0 name) (less k own below there)
     by k own there (inr above) = greater_apart (order own.0 name) (greater k own (omega arith) there)
 
-pub search_found : (decls : List Named) → IsRising decls → (name : Text) (m : ℕ) (own : Named) → slice_get decls m ≡ Some own → order own.0 name ≡ Equal → package_decl decls name ≡ Some own.1
+pub search_found : (decls : List Named) → IsRising name_of decls → (name : Text) (m : ℕ) (own : Named) → slice_get decls m ≡ Some own → order own.0 name ≡ Equal → package_decl decls name ≡ Some own.1
 search_found decls rises name m own here equal =
     let tie : pointwise nat_eq own.0 name ≡ true = texts_ties own.0 name ∙ ap is_eq equal in
     let same : own.0 ≡ name = exact_bytes own.0 name tie in

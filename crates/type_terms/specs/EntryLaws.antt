@@ -10,13 +10,14 @@ use Rattle.code_tables.specs.declared.qualified.QName.{QName}
 use Rattle.code_tables.specs.declared.positions.Pos.{Pos}
 use Rattle.type_terms.specs.declared.descriptors.Node.{Node}
 use Rattle.type_terms.specs.declared.declarations.DeclNode.{DeclNode}
+use Rattle.type_terms.specs.declared.declarations.Package.{Package}
 use Rattle.type_terms.specs.Shapes.{sig_types}
 use Rattle.type_terms.specs.Trees.{Text}
 use Rattle.type_terms.specs.Denotation.{tree}
 use Rattle.type_terms.specs.Arenas.{Contents, AllBelow, Extends}
 use Rattle.type_terms.specs.Declarations.{ReceiverOf, Form, var_of, function_of, constant_of, defined_of, renamed_of, type_parameter_of, Decl, receiver_map, receiver_types, form_map, form_types, decl_form, decl_nodes}
 use Rattle.type_terms.specs.Environments.{Entry, declared, decl_of, IsProperDecl, entry_types, AddsOnly}
-use Rattle.type_terms.specs.Packages.{Named, package_decl, package_entry, package_names, PackageStands, over_entries}
+use Rattle.type_terms.specs.Packages.{Named, package_decl, package_entry, package_names, HoldsParameters, DeclsStand, PackageStands, over_entries}
 use Rattle.type_terms.specs.Replaced.{all_left, all_right, map_agrees}
 use Rattle.type_terms.specs.ShapeLaws.{Agree, type_agrees, sig_agrees}
 use Rattle.type_terms.specs.Denoted.{tree_stays, all_weaker}
@@ -57,7 +58,7 @@ decl_of-stays nodes more decl below =
     (all_weaker (λ n. n < length nodes) (Agree (tree (nodes ++ more)) (tree nodes)) (λ n h. tree_stays nodes more n h) (decl_nodes decl) below)
 
 -- The package stands as nodes are added, and means the same.
-module _ (nodes more : List Node) (decls : List Named) (stands : PackageStands nodes decls) where
+module _ (nodes more : List Node) (path : Text) (decls : List Named) (stands : DeclsStand nodes path decls) where
   entry_stays : (name : Text) (found : Option DeclNode) → package_decl decls name ≡ found → option_map (λ decl. declared (decl_of (nodes ++ more) decl)) found ≡ option_map (λ decl. declared (decl_of nodes decl)) found
   entry_stays name None e = refl
   entry_stays name (Some decl) e = ap (λ d. Some (declared d)) (decl_of-stays nodes more decl (stands.below name decl e))
@@ -65,12 +66,20 @@ module _ (nodes more : List Node) (decls : List Named) (stands : PackageStands n
   pub package_entry-stays : (name : Text) → package_entry (nodes ++ more) decls name ≡ package_entry nodes decls name
   package_entry-stays name = entry_stays name (package_decl decls name) refl
 
-  pub package_stays : PackageStands (nodes ++ more) decls
-  package_stays = record {
+  pub decls_stay : DeclsStand (nodes ++ more) path decls
+  decls_stay = record {
     rises = stands.rises;
     below = λ name decl e. all_weaker (λ n. n < length nodes) (λ n. n < length (nodes ++ more)) (λ n h. omega (arith, length-append nodes more)) (decl_nodes decl) (stands.below name decl e);
     proper = λ name decl e. subst IsProperDecl (sym (decl_of-stays nodes more decl (stands.below name decl e))) (stands.proper name decl e);
+    parameters = λ name decl e. subst (HoldsParameters path decls name) (sym (decl_of-stays nodes more decl (stands.below name decl e))) (stands.parameters name decl e);
   }
+
+pub package_stays : (nodes more : List Node) (whole : Package) → PackageStands nodes whole → PackageStands (nodes ++ more) whole
+package_stays nodes more whole stands = record {
+  imports = stands.imports;
+  files = stands.files;
+  decls = decls_stay nodes more whole.path whole.decls.items stands.decls;
+}
 
 -- what a package gives is a declaration of its own
 pub package_entry-decl : (nodes : List Node) (decls : List Named) (name : Text) (entry : Entry) → package_entry nodes decls name ≡ Some entry → (decl : DeclNode) × (package_decl decls name ≡ Some decl) × (entry ≡ declared (decl_of nodes decl))
@@ -80,8 +89,8 @@ package_entry-decl nodes decls name entry = by (package_decl decls name) refl
     by None e is = no_entry _ entry is
     by (Some decl) e is = let same : declared (decl_of nodes decl) ≡ entry = (cc) in (decl, e, sym same)
 
-pub package_entry-proper : (nodes : List Node) (decls : List Named) (name : Text) (decl : Decl) → PackageStands nodes decls → package_entry nodes decls name ≡ Some (declared decl) → IsProperDecl decl
-package_entry-proper nodes decls name decl stands is =
+pub package_entry-proper : (nodes : List Node) (path : Text) (decls : List Named) (name : Text) (decl : Decl) → DeclsStand nodes path decls → package_entry nodes decls name ≡ Some (declared decl) → IsProperDecl decl
+package_entry-proper nodes path decls name decl stands is =
     let found = package_entry-decl nodes decls name (declared decl) is in
     let given : declared decl ≡ declared (decl_of nodes found.0) = found.2 in
     let same : decl ≡ decl_of nodes found.0 = (cc) in
@@ -119,23 +128,23 @@ over_finite path decls names base nodes q entry below = by (pointwise nat_eq q.p
         Contains-append_left (package_names path decls) names q (subst (λ p. Contains (package_names path decls) (record { path = p; name = q.name })) name own)
     by false same is = Contains-append_right (package_names path decls) names q (below is)
 
-pub over_proper : (path : Text) (decls : List Named) (base : QName → Option Entry) (nodes : List Node) (q : QName) (decl : Decl) → PackageStands nodes decls → (base q ≡ Some (declared decl) → IsProperDecl decl)
+pub over_proper : (path : Text) (decls : List Named) (base : QName → Option Entry) (nodes : List Node) (q : QName) (decl : Decl) → DeclsStand nodes path decls → (base q ≡ Some (declared decl) → IsProperDecl decl)
     → over_entries path decls nodes base q ≡ Some (declared decl) → IsProperDecl decl
 over_proper path decls base nodes q decl stands below = by (pointwise nat_eq q.path path)
   where
     by : (b : Bool) → cond b (package_entry nodes decls q.name) (base q) ≡ Some (declared decl) → IsProperDecl decl
-    by true is = package_entry-proper nodes decls q.name decl stands is
+    by true is = package_entry-proper nodes path decls q.name decl stands is
     by false is = below is
 
-pub over_stays : (path : Text) (decls : List Named) (nodes more : List Node) → PackageStands nodes decls → (late early : QName → Option Entry) → late ≡ early → over_entries path decls (nodes ++ more) late ≡ over_entries path decls nodes early
+pub over_stays : (path : Text) (decls : List Named) (nodes more : List Node) → DeclsStand nodes path decls → (late early : QName → Option Entry) → late ≡ early → over_entries path decls (nodes ++ more) late ≡ over_entries path decls nodes early
 over_stays path decls nodes more stands late early e =
-    λ i q. cond (pointwise nat_eq q.path path) (package_entry-stays nodes more decls stands q.name i) (e i q)
+    λ i q. cond (pointwise nat_eq q.path path) (package_entry-stays nodes more path decls stands q.name i) (e i q)
 
 -- The same from one state of an arena to a later one.
-pub package_grown : (decls : List Named) (old new : Contents) → Extends old new → PackageStands old.nodes decls → PackageStands new.nodes decls
-package_grown decls old new grown stands = subst (λ nodes. PackageStands nodes decls) (sym grown.nodes) (package_stays old.nodes grown.more decls stands)
+pub package_grown : (whole : Package) (old new : Contents) → Extends old new → PackageStands old.nodes whole → PackageStands new.nodes whole
+package_grown whole old new grown stands = subst (λ nodes. PackageStands nodes whole) (sym grown.nodes) (package_stays old.nodes grown.more whole stands)
 
-pub over_grown : (path : Text) (decls : List Named) (old new : Contents) → Extends old new → PackageStands old.nodes decls → (late early : QName → Option Entry) → late ≡ early
+pub over_grown : (path : Text) (decls : List Named) (old new : Contents) → Extends old new → DeclsStand old.nodes path decls → (late early : QName → Option Entry) → late ≡ early
     → over_entries path decls new.nodes late ≡ over_entries path decls old.nodes early
 over_grown path decls old new grown stands late early e =
     ap (λ nodes. over_entries path decls nodes late) grown.nodes ∙ over_stays path decls old.nodes grown.more stands late early e

@@ -50,9 +50,9 @@ abbrev pub IsInterface : Tree → Type 0
 IsInterface (interface home embedded own) = Unit {0}
 IsInterface _ = ⊥
 
--- A predeclared type up to string, unsafe.Pointer or any, or a literal.
+-- A predeclared type up to rune, unsafe.Pointer or any, or a literal.
 abbrev pub IsUnderlying : Tree → Type 0
-IsUnderlying (predeclared basic) = (basic_code basic ≤ 16) ⊎ ((basic_code basic ≡ 27) ⊎ (basic_code basic ≡ 31))
+IsUnderlying (predeclared basic) = (basic_code basic ≤ 18) ⊎ ((basic_code basic ≡ 27) ⊎ (basic_code basic ≡ 31))
 IsUnderlying (named q) = ⊥
 IsUnderlying (parameter q) = ⊥
 IsUnderlying (alias q) = ⊥
@@ -72,7 +72,7 @@ IsProperForm (var_of pos type) = Unit {0}
 IsProperForm (function_of pos tparams sig) = All IsTypeParameter tparams × HasLast sig
 IsProperForm (constant_of pos type value) = Unit {0}
 IsProperForm (defined_of pos tparams underlying methods) = All IsTypeParameter tparams × IsUnderlying underlying × ((methods ≡ []) ⊎ MayHaveMethods underlying) × All (λ method. HasLast method.sig) methods
-IsProperForm (renamed_of pos tparams type) = All IsTypeParameter tparams
+IsProperForm (renamed_of pos tparams type) = All IsTypeParameter tparams × ((tparams ≡ []) ⊎ (IsTypeParameter type → ⊥))
 IsProperForm (type_parameter_of pos implicit constraint) = IsTrue implicit → IsInterface constraint
 
 pub record IsProperDecl (decl : Decl) : Type 0 where

@@ -12,13 +12,14 @@ pub struct Method {
     pub sig: Sig,
 }
 
-/// A declaration, whose types are nodes of an arena.
+/// A declaration, whose types are nodes of an arena. What an environment gives keeps the rules of `IsProperDecl`.
 #[derive(Clone, Debug, Drop, PartialEq, Eq, Hash)]
 pub enum DeclNode {
     Var {
         pos: Pos,
         ty: NodeId,
     },
+    /// Each of the type parameters is a `Param`, here and below.
     Func {
         pos: Pos,
         tparams: Nodes,
@@ -29,13 +30,14 @@ pub enum DeclNode {
         ty: NodeId,
         value: Const,
     },
-    /// A defined type. Each of its type parameters is a `Param`.
+    /// A defined type. Its underlying type is a predeclared type or a literal; `any` and interfaces have no methods.
     Defined {
         pos: Pos,
         tparams: Nodes,
         underlying: NodeId,
         methods: MethodList,
     },
+    /// The type of an alias with type parameters isn't one of them alone.
     Alias {
         pos: Pos,
         tparams: Nodes,
@@ -50,7 +52,9 @@ pub enum DeclNode {
 }
 
 /// A package. Its declarations are sorted by name, each name once, and hold the type parameters under their export
-/// names. Its imports are sorted paths, each once, without `unsafe`.
+/// names: that of the owner, a dot and its own, as `T.P` or `T.Method.P`. Its imports are sorted paths, each once,
+/// without `unsafe`. The lines of a file start at 0 and rise, and none starts behind the file's end. What asks for a
+/// package says all this by `PackageStands`.
 #[derive(Debug, Drop)]
 pub struct Package {
     pub path: Bytes,

@@ -1,5 +1,5 @@
 ghost use Rattle.std.specs.Prelude.{◌≡◌, ◌⊎◌, None, Some, IfOk, IfErr, nat_eq, cond};
-ghost use Rattle.type_terms.specs.Packages.{IsRising, package_decl};
+ghost use Rattle.type_terms.specs.Packages.{IsRising, name_of, package_decl};
 
 use crate::declarations::{DeclNode, Package};
 use crate::environments::{Env, EnvError, unknown};
@@ -26,7 +26,7 @@ impl<E: Env> Env for Over<'_, E> {
 
     ghost packages = { λ over path. cond (pointwise nat_eq path over.package.now.path) (Some over.package.now.name) (E.packages over.base.now path) };
 
-    ghost stands = { λ over nodes. PackageStands nodes over.package.now.decls.items × E.stands over.base.now nodes };
+    ghost stands = { λ over nodes. PackageStands nodes over.package.now × E.stands over.base.now nodes };
 
     ghost asked = { λ over. E.asked over.base.now };
 
@@ -50,18 +50,18 @@ impl<E: Env> Env for Over<'_, E> {
 
     ghost finite = { λ over nodes q entry is. over_finite over.package.now.path over.package.now.decls.items (E.names over.base.now) (E.entries over.base.now nodes) nodes q entry (E.finite over.base.now nodes q entry) is };
 
-    ghost proper = { λ over nodes q decl stands is. over_proper over.package.now.path over.package.now.decls.items (E.entries over.base.now nodes) nodes q decl stands.0 (E.proper over.base.now nodes q decl stands.1) is };
+    ghost proper = { λ over nodes q decl stands is. over_proper over.package.now.path over.package.now.decls.items (E.entries over.base.now nodes) nodes q decl stands.0.decls (E.proper over.base.now nodes q decl stands.1) is };
 
-    ghost stays = { λ over nodes more stands. let base = E.stays over.base.now nodes more stands.1 in ((package_stays nodes more over.package.now.decls.items stands.0, base.0), over_stays over.package.now.path over.package.now.decls.items nodes more stands.0 (E.entries over.base.now (nodes ++ more)) (E.entries over.base.now nodes) base.1) };
+    ghost stays = { λ over nodes more stands. let base = E.stays over.base.now nodes more stands.1 in ((package_stays nodes more over.package.now stands.0, base.0), over_stays over.package.now.path over.package.now.decls.items nodes more stands.0.decls (E.entries over.base.now (nodes ++ more)) (E.entries over.base.now nodes) base.1) };
 }
 
-/// A copy of the package's own declaration of a name.
-fn own(package: &Package, q: &QName) -> Result<DeclNode, EnvError>
-    requires sorted { IsRising «package».now.decls.items }
-    ensures found { IfOk result (λ decl. package_decl «package».now.decls.items q.now.name ≡ Some decl) }
-    ensures missing { IfErr result (λ error. (error ≡ EnvError.OutOfMemory) ⊎ ((error ≡ EnvError.Unknown q.now) × (package_decl «package».now.decls.items q.now.name ≡ None))) }
+/// A copy of the declaration that the package has for a name.
+fn own(owner: &Package, q: &QName) -> Result<DeclNode, EnvError>
+    requires sorted { IsRising name_of owner.now.decls.items }
+    ensures found { IfOk result (λ decl. package_decl owner.now.decls.items q.now.name ≡ Some decl) }
+    ensures missing { IfErr result (λ error. (error ≡ EnvError.OutOfMemory) ⊎ ((error ≡ EnvError.Unknown q.now) × (package_decl owner.now.decls.items q.now.name ≡ None))) }
 {
-    let Some(decl) = package.decl(q.name.as_slice()) else {
+    let Some(decl) = owner.decl(q.name.as_slice()) else {
         return Err(unknown(q));
     };
     let Ok(copy) = decl.clone() else {

@@ -1,5 +1,5 @@
 ghost use Rattle.std.specs.Prelude.{◌≡◌, option_map};
-ghost use Rattle.type_terms.specs.Packages.{IsRising, package_decl};
+ghost use Rattle.type_terms.specs.Packages.{IsRising, name_of, package_decl};
 
 use crate::declarations::{DeclNode, Package};
 use std::cmp::Ordering;
@@ -8,7 +8,7 @@ impl Package {
     /// The declaration with a name, if there is one. Takes no memory, and one comparison for each halving of the
     /// declarations.
     pub fn decl(&self, name: &[u8]) -> Option<&DeclNode>
-        requires sorted { IsRising self.now.decls.items }
+        requires sorted { IsRising name_of self.now.decls.items }
         ensures { option_map (λ decl. decl.now) result ≡ package_decl self.now.decls.items name.now }
     {
         let mut low = 0;

@@ -4,7 +4,7 @@ use Rattle.type_terms.proofs.overlay.OverEnv.declare.Goals as goal
 
 pub returns-else-eq-clause-entries : goal.returns-else-eq-clause-entries
 returns-else-eq-clause-entries g c =
-    over_grown _ _ c.args.arena.now c.declare.new.arena c.declare.ensures.extends c.requires.stands.0 _ _ c.declare.ensures.entries
+    over_grown _ _ c.args.arena.now c.declare.new.arena c.declare.ensures.extends c.requires.stands.0.decls _ _ c.declare.ensures.entries
 
 pub returns-else-eq-clause-adds : goal.returns-else-eq-clause-adds
 returns-else-eq-clause-adds g c =
