@@ -45,3 +45,8 @@ pub fn reach_is_least()
 pub fn reach_is_idempotent()
     ensures { (refs : Name → List Name) (starts more : List Name) → ((q : Name) → Contains more q → Reached refs starts q) → (q : Name) → Reached refs more q → Reached refs starts q }
 {}
+
+/// From more names no fewer are reached.
+pub fn reach_is_monotone()
+    ensures { (refs : Name → List Name) (fewer more : List Name) → ((q : Name) → Contains fewer q → Contains more q) → (q : Name) → Reached refs fewer q → Reached refs more q }
+{}

@@ -19,8 +19,9 @@ pub use descriptors::Node;
 pub use environments::{Env, EnvError, NoDeps};
 pub use exported::is_exported;
 pub use laws::{
-    equal_trees_have_equal_numbers, nodes_keep_their_trees, parts_are_smaller, reach_is_idempotent,
-    reach_is_least, references_follow_the_parts,
+    equal_trees_have_equal_numbers, equality_of_types_is_tested, nodes_keep_their_trees,
+    parts_are_smaller, reach_is_idempotent, reach_is_least, reach_is_monotone,
+    references_follow_the_parts,
 };
 pub use lists::{Fields, MethodList, Methods, Nodes, Params, Sequence, Terms};
 pub use literals::{Dir, Field, IMethod, Origin, ParamNode, Sig, Term};
