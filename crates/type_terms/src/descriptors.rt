@@ -2,6 +2,10 @@ use crate::lists::{Fields, Methods, Nodes, Terms};
 use crate::literals::{Dir, Sig};
 use crate::node_numbers::NodeId;
 use code_tables::{Basic, Bytes, QName};
+use std::mem::size_of;
+
+// So that a node of a pointer doesn't grow with what structs and signatures hold.
+const _: () = prove!(size_of::<Node>() == 88);
 
 /// A type, whose parts are nodes of the same arena. Defined types, aliases and type parameters hold their names
 /// alone. The first text of a function, a struct and an interface is the path of the package in which the literal
