@@ -1,3 +1,4 @@
 pub mod NodesExact
 pub mod Insertions
 pub mod Searches
+pub mod Variables
