@@ -11,7 +11,8 @@ use Rattle.name_index.specs.declared.records.Layout.{Layout}
 use Rattle.name_index.specs.FullFile.{FullFile}
 use Rattle.name_index.specs.Envelope.{Envelope}
 use Rattle.name_index.specs.FirstBreach.{full_file_of}
-use Rattle.name_index.specs.Records.{file_of, fault_of, IsLayout, IsOpen}
+use Rattle.position_codec.specs.Paths.{ArePaths}
+use Rattle.name_index.specs.Records.{file_of, fault_of, spelled_paths, IsLayout, IsOpen}
 use Rattle.name_index.specs.Opening.{Opens}
 use Rattle.name_index.proofs.Files.{file_takes, file_again}
 
@@ -29,9 +30,10 @@ is_no_file own bytes (errors.Bytes f) file failed env = let there = file_again o
     no_both there failed = cc
 is_no_file own bytes errors.OutOfMemory file failed env = tt
 
-pub is_open : (own path bytes slice : List ℕ) (l : Layout) → slice ≡ bytes → own ≡ path → length bytes ≤ 16777216 → IsLayout slice l → Envelope path slice (file_of path slice l) → IsOpen own bytes l
-is_open own path bytes slice l same mine short layout env =
-    rw mine (subst (λ (b : List ℕ). IsOpen path b l) same (record { short = omega (arith, short, ap length same); layout = layout; envelope = env }))
+pub is_open : (own path bytes slice : List ℕ) (l : Layout) → slice ≡ bytes → own ≡ path → length bytes ≤ 16777216 → IsLayout slice l → ArePaths path (spelled_paths slice l)
+    → Envelope path slice (file_of path slice l) → IsOpen own bytes l
+is_open own path bytes slice l same mine short layout paths env =
+    rw mine (subst (λ (b : List ℕ). IsOpen path b l) same (record { short = omega (arith, short, ap length same); layout = layout; paths = paths; envelope = env }))
 
 pub is_found : (own path bytes slice : List ℕ) (l : Layout) → slice ≡ bytes → own ≡ path → Envelope path slice (file_of path slice l) → Envelope path bytes (file_of own bytes l)
 is_found own path bytes slice l same mine env =

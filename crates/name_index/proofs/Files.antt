@@ -1,5 +1,5 @@
 -- Whole files: what is read is an envelope, and an envelope is read.
-use Rattle.std.proofs.Common.{◌≡◌, ℕ, zero, suc, ◌<◌, Result, Err, ◌+◌, ◌-◌, ◌≤◌, List, [], ◌∷◌, ◌++◌, length, take, drop, Bool, true, false, ◌||◌, eqb, Ok, refl, sym, ap, subst, ◌∙◌, arith, ◌⊎◌, inl, inr, append_assoc}
+use Rattle.std.proofs.Common.{◌≡◌, ℕ, zero, suc, ◌<◌, Result, Err, ◌+◌, ◌-◌, ◌≤◌, List, [], ◌∷◌, ◌++◌, length, take, drop, Bool, true, false, ◌||◌, eqb, Ok, map, refl, sym, ap, subst, ◌∙◌, arith, ◌⊎◌, inl, inr, append_assoc}
 use Rattle.std.proofs.lemmas.Bool.{eqb-true, le-ltb, cases_lt}
 use Rattle.std.proofs.lemmas.List.{nil_from_length, length-append, length-drop, length-take, drop_at, take-append-drop, get_or-take, get_or_past}
 use Rattle.std.specs.List.{AllByRecursion}
@@ -12,7 +12,8 @@ use Rattle.wire_bytes.proofs.Spellings.{IsBytes}
 use Rattle.wire_bytes.proofs.Texts.{IsBytes-drop}
 use Rattle.wire_bytes.proofs.Many.{Takes}
 use Rattle.wire_bytes.proofs.Cursors.{uvarint_at_takes, uvarint_at_again, byte_at_takes, byte_at_again, bytes_at_takes}
-use Rattle.name_index.specs.FullFile.{Section, content, FullFile, named}
+use Rattle.position_codec.specs.Paths.{ArePaths}
+use Rattle.name_index.specs.FullFile.{Section, content, Package, FullFile, named}
 use Rattle.name_index.specs.Envelope.{Envelope, IsPackage}
 use Rattle.name_index.specs.FirstBreach.{FirstBreach, Header, header_at, section_at, index_at, full_file_of}
 use Rattle.name_index.proofs.Packages.{index_takes, index_again}
@@ -191,6 +192,17 @@ file_takes own bytes x fits e =
       paths = t3.stands.paths;
       resolved = refl;
     })
+
+-- the paths of an index, wherever it was read
+pub paths_read : (own bytes : List ℕ) (h : Header) (strings body : Section) (ps : List Package) (s1 s2 s3 s4 : Spot) → IsBytes bytes
+    → header_at (record { end = length bytes; left = bytes }) ≡ Ok (h, s1) → section_at h.strings s1 ≡ Ok (strings, s2) → section_at h.body s2 ≡ Ok (body, s3)
+    → index_at own (content bytes strings) body.len s3 ≡ Ok (ps, s4) → ArePaths own (map (λ p. p.path) ps)
+paths_read own bytes h strings body ps s1 s2 s3 s4 fits header first second index =
+    let t0 = header_takes (record { end = length bytes; left = bytes }) h s1 fits header in
+    let t1 = section_takes h.strings s1 strings s2 t0.fits first in
+    let t2 = section_takes h.body s2 body s3 t1.fits second in
+    let t3 = index_takes own (content bytes strings) body.len s3 ps s4 (IsBytes-content bytes strings fits) t2.fits index in
+    t3.stands.paths
 
 pub file_again : (own bytes : List ℕ) (x : FullFile) → Envelope own bytes x → full_file_of own bytes ≡ Ok x
 unfolding full_file_of

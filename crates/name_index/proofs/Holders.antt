@@ -9,9 +9,10 @@ use Rattle.std.proofs.lemmas.Option.{slice_get_within, get_or_from_slice_get}
 use Rattle.name_index.specs.declared.records.EntryRecord.{EntryRecord}
 use Rattle.name_index.specs.declared.records.PackageRecord.{PackageRecord}
 use Rattle.name_index.specs.FullFile.{Entry, Package, Listed, listed}
-use Rattle.name_index.specs.Order.{Rise}
+use Rattle.position_codec.specs.Order.{Rise}
 use Rattle.name_index.specs.Lookup.{heading_at, names_at, name_at, IsListed}
-use Rattle.name_index.specs.Records.{text_of, entry_of, package_of, packages_of, paths_of, name_count, IsNumbered, IsHolder, IsInside, IsPackageInside, IsSearchable}
+use Rattle.position_codec.specs.Paths.{text_of, IsInside}
+use Rattle.name_index.specs.Records.{entry_of, package_of, packages_of, paths_of, name_count, IsNumbered, IsHolder, IsPackageInside, IsSearchable}
 use Rattle.std.specs.Cmp.Lexicographic.{pointwise}
 use Rattle.name_index.proofs.Orders.{text_itself}
 use Rattle.name_index.proofs.Listing.{of_map, in_map, before, placed, holder, before_later, before-named}

@@ -1,12 +1,12 @@
 pub mod Lists
 pub mod Loops
+pub mod Lent
 pub mod Orders
 pub mod Entries
 pub mod Packages
 pub mod Files
 pub mod Answers
 pub mod Lookups
-pub mod Halves
 pub mod Listing
 pub mod Sorted
 pub mod Holders

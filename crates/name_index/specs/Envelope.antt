@@ -1,11 +1,11 @@
 -- The parts of a full file, apart from how they are read.
-use Rattle.std.specs.Prelude.{◌≡◌, ◌≢◌, ℕ, ◌+◌, ◌<◌, ◌≤◌, ◌⊎◌, List, [], ◌∷◌, length, drop, map}
-use Rattle.std.specs.List.{AllByRecursion}
+use Rattle.std.specs.Prelude.{◌≡◌, ℕ, ◌+◌, ◌<◌, ◌≤◌, ◌⊎◌, List, [], ◌∷◌, length, drop, map}
 use Rattle.wire_bytes.specs.Reading.{InOrder}
 use Rattle.wire_bytes.specs.Uvarint.{BeginsWith}
 use Rattle.wire_bytes.specs.Text.{Text}
 use Rattle.name_index.specs.FullFile.{content, Entry, Package, FullFile, named}
-use Rattle.name_index.specs.Order.{RiseFrom, Rise}
+use Rattle.position_codec.specs.Order.{Rise}
+use Rattle.position_codec.specs.Paths.{ArePaths}
 
 -- the offset of a text in the string section
 abbrev pub TextOffset : List ℕ → List ℕ → List ℕ → List ℕ → Type 0
@@ -28,11 +28,6 @@ pub record IsPackage (strings : List ℕ) (size : ℕ) (bytes : List ℕ) (p : P
   pub count : BeginsWith at_count (length p.entries) at_entries
   pub entries : InOrder (IsEntry strings size) at_entries p.entries rest
   pub names_rise : Rise (map (λ e. e.name) p.entries)
-
--- The first path is empty and stands for the file's own. The others rise, and none is the file's own.
-abbrev pub ArePaths : List ℕ → List (List ℕ) → Type 0
-ArePaths own [] = ⊥
-ArePaths own (first ∷ others) = (first ≡ []) × RiseFrom [] others × AllByRecursion (λ t. t ≢ own) others
 
 -- A full file of the path own, in the order of its parts: the letter i, the format version, the sizes of the two
 -- sections, the string section, the data section, the number of packages and the packages, and nothing after them.

@@ -1,5 +1,4 @@
 pub mod FullFile
-pub mod Order
 pub mod Envelope
 pub mod FirstBreach
 pub mod Records

@@ -1,5 +1,10 @@
 -- What opening a file answers.
-use Rattle.std.specs.Prelude.{◌≡◌, ℕ, List, Result, Ok, Err}
+use Rattle.std.specs.Prelude.{◌≡◌, ℕ, List, map, Result, Ok, Err}
+use Rattle.position_codec.specs.declared.parts.Parts.{Parts}
+use Rattle.position_codec.specs.declared.parts.Shape3.TheVariants.{Full}
+use Rattle.position_codec.specs.Paths.{meant}
+use Rattle.position_codec.specs.FileParts.{paths_of}
+use Rattle.name_index.specs.Envelope.{Envelope}
 use Rattle.name_index.specs.declared.fault.OpenFault.{OpenFault}
 use Rattle.name_index.specs.declared.fault.OpenFault.TheVariants as errors
 use Rattle.name_index.specs.FullFile.{FullFile}
@@ -15,3 +20,16 @@ abbrev pub Opens : Result FullFile OpenFault → FullFile → Type 0
 Opens (Ok image) file = image ≡ file
 Opens (Err errors.OutOfMemory) file = Unit {0}
 Opens (Err (errors.Bytes f)) file = ⊥
+
+-- The parts of an open file: its own path is the one under which it is a full file, and each path that is spelled in its
+-- index stands for the path of that package.
+pub record ArePartsOf (file : FullFile) (p : Parts) : Type 0 where
+  pub bytes : p.file.now ≡ file.bytes
+  pub strings_at : p.strings_at ≡ file.strings.at
+  pub strings_len : p.strings_len ≡ file.strings.len
+  pub body_at : p.body_at ≡ file.body.at
+  pub body_len : p.body_len ≡ file.body.len
+  pub version : p.version ≡ file.version
+  pub form : p.form ≡ Full
+  pub own : Envelope p.own.now file.bytes file
+  pub paths : map (meant p.own.now) (paths_of p) ≡ map (λ q. q.path) file.packages

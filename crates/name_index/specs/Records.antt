@@ -1,10 +1,10 @@
 -- What the records of an open file stand for.
-use Rattle.std.specs.Prelude.{◌≡◌, ℕ, ◌+◌, ◌^◌, ◌<◌, ◌≤◌, List, [], ◌∷◌, length, map, Option, Some, None, slice_range, slice_get}
+use Rattle.std.specs.Prelude.{◌≡◌, ℕ, ◌+◌, ◌^◌, ◌<◌, ◌≤◌, List, [], ◌∷◌, length, map, Option, Some, None, slice_get}
 use Rattle.std.specs.List.{AllByRecursion}
 use Rattle.wire_bytes.specs.declared.fault.ByteFault.{ByteFault}
 use Rattle.name_index.specs.declared.fault.OpenFault.{OpenFault}
 use Rattle.name_index.specs.declared.fault.OpenFault.TheVariants as errors
-use Rattle.name_index.specs.declared.records.TextPlace.{TextPlace}
+use Rattle.position_codec.specs.Paths.{text_of, IsInside, ArePaths}
 use Rattle.name_index.specs.declared.records.EntryRecord.{EntryRecord}
 use Rattle.name_index.specs.declared.records.PackageRecord.{PackageRecord}
 use Rattle.name_index.specs.declared.full.header.HeaderRecord.{HeaderRecord}
@@ -14,14 +14,6 @@ use Rattle.name_index.specs.FullFile.{Section, content, Entry, Package, FullFile
 use Rattle.name_index.specs.Envelope.{Envelope}
 use Rattle.name_index.specs.FirstBreach.{Header}
 use Rattle.name_index.specs.Lookup.{IsSorted}
-
--- the text at a place of the string section
-abbrev pub text_of : List ℕ → TextPlace → List ℕ
-text_of strings t = slice_range strings t.start t.end
-
--- a place inside the string section
-abbrev pub IsInside : List ℕ → TextPlace → Type 0
-IsInside strings t = (t.start ≤ t.end) × (t.end ≤ length strings)
 
 abbrev pub entry_of : List ℕ → EntryRecord → Entry
 entry_of strings e = record { name = text_of strings e.name; offset = e.offset }
@@ -71,19 +63,26 @@ file_of own bytes l = record {
   packages = packages_of own (content bytes (section_of l.strings)) l.packages.items;
 }
 
--- the sections lie inside the file, the texts inside the string section, and the names are numbered
+-- The sections lie inside the file and the texts inside the string section. The paths stand apart as well, and the names are
+-- numbered.
 pub record IsLayout (bytes : List ℕ) (l : Layout) : Type 0 where
   pub strings_inside : l.strings.at + l.strings.len ≤ length bytes
   pub body_inside : l.body.at + l.body.len ≤ length bytes
   pub texts_inside : AllByRecursion (IsPackageInside (content bytes (section_of l.strings))) l.packages.items
+  pub paths : l.paths.items ≡ map (λ p. p.path) l.packages.items
   pub numbered : IsNumbered 0 l.packages.items
   pub few : length l.packages.items < 2 ^ 32
   pub few_names : name_count l.packages.items < 2 ^ 32
+
+-- the paths of the index, as the file spells them
+abbrev pub spelled_paths : List ℕ → Layout → List (List ℕ)
+spelled_paths bytes l = map (text_of (content bytes (section_of l.strings))) l.paths.items
 
 -- an open file: what was found in it is the envelope of its bytes
 pub record IsOpen (own bytes : List ℕ) (l : Layout) : Type 0 where
   pub short : length bytes ≤ 16777216
   pub layout : IsLayout bytes l
+  pub paths : ArePaths own (spelled_paths bytes l)
   pub envelope : Envelope own bytes (file_of own bytes l)
 
 -- records in which names are searched for

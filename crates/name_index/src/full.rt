@@ -6,14 +6,15 @@ ghost use Rattle.wire_bytes.specs.Reading.{GivesBy};
 ghost use Rattle.name_index.specs.FullFile.{content};
 ghost use Rattle.name_index.specs.Envelope.{Envelope};
 ghost use Rattle.name_index.specs.FirstBreach.{section_at, full_file_of};
-ghost use Rattle.name_index.specs.Records.{section_of, file_of, fault_of, IsLayout};
+ghost use Rattle.position_codec.specs.Paths.{ArePaths};
+ghost use Rattle.name_index.specs.Records.{section_of, file_of, fault_of, IsLayout, spelled_paths};
 
 mod entries;
 mod header;
 mod packages;
 
 use crate::fault::OpenFault;
-use crate::records::{Layout, SectionRecord, section_bytes};
+use crate::records::{Layout, SectionRecord, path_spans, section_bytes};
 use header::read_header;
 use packages::read_index;
 use std::alloc::Global;
@@ -41,6 +42,7 @@ pub(crate) fn read_layout(alloc: Global, bytes: &[u8], own: &[u8]) -> Result<Lay
     requires { length bytes.now ≤ 16777216 }
     ensures inside { IfOk result (λ l. IsLayout bytes.now l) }
     ensures found { IfOk result (λ l. Envelope own.now bytes.now (file_of own.now bytes.now l)) }
+    ensures paths { IfOk result (λ l. ArePaths own.now (spelled_paths bytes.now l)) }
     ensures exact { GivesBy fault_of (λ l. file_of own.now bytes.now l) result (full_file_of own.now bytes.now) }
 {
     read_parts(alloc, bytes, own)
@@ -50,6 +52,7 @@ pub(crate) fn read_layout(alloc: Global, bytes: &[u8], own: &[u8]) -> Result<Lay
 fn read_parts(alloc: Global, bytes: &[u8], own: &[u8]) -> Result<Layout, OpenFault>
     requires { length bytes.now ≤ 16777216 }
     ensures inside { IfOk result (λ l. IsLayout bytes.now l) }
+    ensures paths { IfOk result (λ l. ArePaths own.now (spelled_paths bytes.now l)) }
     ensures exact { GivesBy fault_of (λ l. file_of own.now bytes.now l) result (full_file_of own.now bytes.now) }
 {
     let mut cursor = Cursor::new(bytes, 0, bytes.len());
@@ -62,10 +65,12 @@ fn read_parts(alloc: Global, bytes: &[u8], own: &[u8]) -> Result<Layout, OpenFau
         let at = cursor.place() as u64;
         return Err(OpenFault::Bytes(ByteFault::Trailing { at }));
     }
+    let paths = path_spans(alloc, packages.as_slice())?;
     Ok(Layout {
         version: header.version,
         strings,
         body,
         packages,
+        paths,
     })
 }

@@ -7,17 +7,19 @@ ghost use Rattle.name_index.specs.Envelope.{Envelope};
 ghost use Rattle.name_index.specs.FirstBreach.{FirstBreach, full_file_of};
 ghost use Rattle.name_index.specs.Lookup.{heading_at, names_at, name_at, as_listed, IsListed};
 ghost use Rattle.name_index.specs.Records.{fault_of};
-ghost use Rattle.name_index.specs.Opening.{Opens, NamesBreach};
+ghost use Rattle.position_codec.specs.FileParts.{IsOfFile};
+ghost use Rattle.name_index.specs.Opening.{Opens, NamesBreach, ArePartsOf};
 
 use crate::fault::OpenFault;
 use crate::full::read_layout;
 use crate::lookup::{ListedRecord, entry, heading, look_up, name, names};
 use crate::records::{Layout, section_bytes};
+use position_codec::{Parts, Shape3};
 use std::alloc::Global;
 use std::marker::Model;
 
 /// A full file and its index. Contracts see the file's parts. It holds the bytes of the file once; names and paths are
-/// lent from them. An index of n names and p packages takes 12 bytes a name and 48 a package besides.
+/// lent from them. An index of n names and p packages takes 12 bytes a name and 56 a package besides.
 #[derive(Debug, Drop)]
 pub struct Image {
     bytes: Vec<u8>,
@@ -53,6 +55,26 @@ pub fn read_full_file(alloc: Global, bytes: Vec<u8>, path: &[u8]) -> Result<Imag
 }
 
 impl Image {
+    /// The parts of the file, for readers of positions and declarations. They are lent, and no memory is taken.
+    pub fn parts(&self) -> Parts<'_>
+        ensures exact { ArePartsOf self.now result }
+        // what readers ask for
+        ensures of_file { IsOfFile result }
+        ensures short { length result.file.now ≤ 16777216 }
+    {
+        Parts {
+            file: self.bytes.as_slice(),
+            strings_at: u64::from(self.layout.strings.at),
+            strings_len: u64::from(self.layout.strings.len),
+            body_at: u64::from(self.layout.body.at),
+            body_len: u64::from(self.layout.body.len),
+            version: self.layout.version,
+            form: Shape3::Full,
+            own: self.own.as_slice(),
+            paths: self.layout.paths.as_slice(),
+        }
+    }
+
     /// How many packages the index has.
     pub fn package_count(&self) -> u32
         ensures { result ≡ length self.now.packages }

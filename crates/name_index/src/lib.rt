@@ -7,7 +7,6 @@ mod image;
 mod laws;
 mod lookup;
 mod records;
-mod search;
 
 pub use fault::OpenFault;
 pub use image::{Image, read_full_file};

@@ -6,8 +6,8 @@ ghost use Rattle.name_index.specs.FullFile.{listed};
 ghost use Rattle.name_index.specs.Lookup.{heading_at, name_at, as_listed, IsListed};
 ghost use Rattle.name_index.specs.Records.{IsPackageInside, IsNumbered, IsHolder, IsSearchable, name_count, package_of, packages_of, paths_of};
 
-use crate::records::{PackageRecord, text};
-use crate::search::find;
+use crate::records::PackageRecord;
+use position_codec::{find_titled, text_of};
 
 /// The path and the name of package `k`.
 pub(crate) fn heading<'a>(
@@ -27,9 +27,9 @@ pub(crate) fn heading<'a>(
     let path = if k == 0 {
         own
     } else {
-        text(strings, package.path)
+        text_of(strings, package.path)
     };
-    Some((path, text(strings, package.name)))
+    Some((path, text_of(strings, package.name)))
 }
 
 /// Name `i` of package `k`, and its offset.
@@ -50,7 +50,7 @@ pub(crate) fn name<'a>(
         return None;
     }
     let entry = entries[i as usize];
-    Some((text(strings, entry.name), u64::from(entry.offset)))
+    Some((text_of(strings, entry.name), u64::from(entry.offset)))
 }
 
 /// How many names package `k` lists.
@@ -107,7 +107,7 @@ fn package_of_path(
     if path == own {
         return Some(0);
     }
-    let place = find(strings, others, path)?;
+    let place = find_titled(strings, others, path)?;
     Some(place + 1)
 }
 
@@ -133,7 +133,7 @@ pub(crate) fn look_up(
     let holder = package_of_path(strings, own, packages, path)?;
     let package = &packages[holder];
     let entries = package.entries.as_slice();
-    let place = find(strings, entries, name)?;
+    let place = find_titled(strings, entries, name)?;
     Some(ListedRecord {
         number: package.first + place as u32,
         offset: entries[place].offset,

@@ -1,28 +1,24 @@
 //! The index of an open file: small numbers, by which texts of its string section are found again.
 
-ghost use Rattle.std.specs.Prelude.{◌≡◌, ◌≤◌, ◌+◌, length};
+ghost use Rattle.std.specs.Prelude.{◌≡◌, ◌≤◌, ◌+◌, length, map, IfOk};
 ghost use Rattle.name_index.specs.FullFile.{content};
-ghost use Rattle.name_index.specs.Records.{IsInside, text_of, section_of};
+ghost use Rattle.name_index.specs.Records.{section_of};
 
-/// A text of the string section: where it starts there, and where it ends.
-#[derive(Clone, Copy, Debug)]
-pub(crate) struct TextPlace {
-    pub(crate) start: u32,
-    pub(crate) end: u32,
-}
+use position_codec::{TextSpan, Titled};
+use std::alloc::{AllocError, Global};
 
 /// A name, and where its declaration starts in the data section.
 #[derive(Clone, Copy, Debug)]
 pub(crate) struct EntryRecord {
-    pub(crate) name: TextPlace,
+    pub(crate) name: TextSpan,
     pub(crate) offset: u32,
 }
 
 /// A package. `first` is the number of names that the packages before it list.
 #[derive(Debug, Drop)]
 pub(crate) struct PackageRecord {
-    pub(crate) path: TextPlace,
-    pub(crate) name: TextPlace,
+    pub(crate) path: TextSpan,
+    pub(crate) name: TextSpan,
     pub(crate) first: u32,
     pub(crate) entries: Vec<EntryRecord>,
 }
@@ -41,14 +37,34 @@ pub(crate) struct Layout {
     pub(crate) strings: SectionRecord,
     pub(crate) body: SectionRecord,
     pub(crate) packages: Vec<PackageRecord>,
+    /// The paths of the packages, for readers of declarations.
+    pub(crate) paths: Vec<TextSpan>,
 }
 
-/// The text at a place of the string section.
-pub(crate) fn text(strings: &[u8], place: TextPlace) -> &[u8]
-    requires { IsInside strings.now place }
-    ensures { result.now ≡ text_of strings.now place }
+impl Titled for EntryRecord {
+    ghost title = { λ e. e.name };
+
+    fn title(&self) -> TextSpan {
+        self.name
+    }
+}
+
+impl Titled for PackageRecord {
+    ghost title = { λ p. p.path };
+
+    fn title(&self) -> TextSpan {
+        self.path
+    }
+}
+
+/// Where the paths of packages stand.
+pub(crate) fn path_spans(
+    alloc: Global,
+    packages: &[PackageRecord],
+) -> Result<Vec<TextSpan>, AllocError>
+    ensures { IfOk result (λ v. v.items ≡ map (λ p. p.path) packages.now) }
 {
-    &strings[place.start as usize..place.end as usize]
+    packages.iter().map(|package| package.path).collect(alloc)
 }
 
 /// The bytes of a section.

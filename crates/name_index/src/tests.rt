@@ -91,6 +91,30 @@ fn three_packages(rt: HostRuntime) -> Result<(), Fail> {
 }
 
 #[test]
+fn parts_of_a_file(rt: HostRuntime) -> Result<(), Fail> {
+    let image = open(rt.alloc(), &THREE_PACKAGES, b"x/m")?;
+    let parts = image.parts();
+    assert_eq!(rt; (parts.version, parts.own), (1, b"x/m".as_slice()));
+    assert_eq!(rt; parts.strings(), &THREE_PACKAGES[4..22]);
+    assert_eq!(rt; parts.body(), &THREE_PACKAGES[22..26]);
+    let paths: [(u64, Option<&[u8]>); 6] = [
+        (0, Some(b"x/m")),
+        (1, None),
+        (3, Some(b"a/b")),
+        (7, None),
+        (9, Some(b"z")),
+        (18, None),
+    ];
+    for (offset, path) in paths {
+        assert!(rt; parts.path_at(offset) == path, "at {offset}");
+    }
+    let image = open(rt.alloc(), &THREE_PACKAGES, b"m")?;
+    assert!(rt; image.parts().path_at(0) == Some(b"m"));
+    assert!(rt; image.parts().path_at(1) == Some(b"m"));
+    Ok(())
+}
+
+#[test]
 fn first_breaches(rt: HostRuntime) -> Result<(), Fail> {
     for k in 0..ONE_CONSTANT.len() {
         let at = k as u64;

@@ -2,3 +2,5 @@ pub mod Differences
 pub mod Places
 pub mod Written
 pub mod Readings
+pub mod Halves
+pub mod PathNames

@@ -1,5 +1,5 @@
 -- What the calls answer.
-use Rattle.std.specs.Prelude.{◌≡◌, ℕ, ◌+◌, List, ◌++◌, Result, Ok, Err, nat_eq, if◌then◌else◌, slice_range}
+use Rattle.std.specs.Prelude.{◌≡◌, ℕ, List, ◌++◌, Result, Ok, Err, nat_eq, if◌then◌else◌}
 use Rattle.std.specs.Cmp.Lexicographic.{pointwise}
 use Rattle.code_tables.specs.declared.positions.Pos.{Pos}
 use Rattle.wire_bytes.specs.declared.fault.ByteFault.{ByteFault}
@@ -8,13 +8,8 @@ use Rattle.wire_bytes.specs.Begins.{Begins, Appends}
 use Rattle.wire_bytes.specs.Section.{with_text}
 use Rattle.position_codec.specs.declared.fault.PosFault.{PosFault}
 use Rattle.position_codec.specs.declared.fault.PosFault.TheVariants as answers
-use Rattle.position_codec.specs.declared.parts.Parts.{Parts}
 use Rattle.position_codec.specs.Place.{Place, Named, pos_of, moved_on}
 use Rattle.position_codec.specs.Position.{Position}
-
--- the string section
-abbrev pub strings_of : Parts → List ℕ
-strings_of p = slice_range p.file.now p.strings_at (p.strings_at + p.strings_len)
 
 -- no place is spelled in front, unless it wasn't read for want of memory
 abbrev pub SpellsNone : List ℕ → Place → List ℕ → PosFault → Type 0

@@ -9,6 +9,8 @@ mod laws;
 mod parts;
 mod previous;
 mod reading;
+mod search;
+mod spans;
 mod writing;
 
 pub use fault::PosFault;
@@ -16,6 +18,8 @@ pub use laws::one_position_spelling;
 pub use parts::{Parts, Shape3};
 pub use previous::PrevPos;
 pub use reading::read_full;
+pub use search::{Titled, find_titled};
+pub use spans::{TextSpan, text_of};
 pub use writing::write_full;
 
 #[cfg(test)]

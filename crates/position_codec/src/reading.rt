@@ -7,7 +7,8 @@ ghost use Rattle.wire_bytes.specs.Text.{Text};
 ghost use Rattle.wire_bytes.specs.Uvarint.{BeginsWith};
 ghost use Rattle.wire_bytes.specs.Varint.{Varint};
 ghost use Rattle.position_codec.specs.Place.{half, moved, moved_on, pos_of};
-ghost use Rattle.position_codec.specs.Calls.{Found, ReadsPosition, SpellsNone, strings_of};
+ghost use Rattle.position_codec.specs.Calls.{Found, ReadsPosition, SpellsNone};
+ghost use Rattle.position_codec.specs.FileParts.{strings_of};
 ghost use Rattle.position_codec.specs.Position.{Position, moved_at, file_at, line_at, position_at};
 ghost use Rattle.position_codec.specs.Steps.{now_of};
 

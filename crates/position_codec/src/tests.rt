@@ -17,6 +17,7 @@ const PARTS: Parts<'static> = Parts {
     version: 2,
     form: Shape3::Full,
     own: &[b'p'],
+    paths: &[],
 };
 
 fn place(alloc: Global, file: &[u8], line: u32, column: u32) -> Result<Pos, AllocError> {

@@ -4,12 +4,14 @@ ghost use Rattle.std.specs.Prelude.{◌≡◌, ◌≤◌, length, Some, IfOk, On
 ghost use Rattle.std.specs.Option.{option_copied};
 ghost use Rattle.std.specs.List.{AllByRecursion};
 ghost use Rattle.wire_bytes.specs.Reading.{GivesBy};
-ghost use Rattle.name_index.specs.Order.{rises};
+ghost use Rattle.position_codec.specs.Order.{rises};
 ghost use Rattle.name_index.specs.FirstBreach.{text_offset_at, entry_at, entries_at};
-ghost use Rattle.name_index.specs.Records.{text_of, IsInside, entry_of, fault_of};
+ghost use Rattle.position_codec.specs.Paths.{text_of, IsInside};
+ghost use Rattle.name_index.specs.Records.{entry_of, fault_of};
 
 use crate::fault::OpenFault;
-use crate::records::{EntryRecord, TextPlace};
+use crate::records::EntryRecord;
+use position_codec::TextSpan;
 use std::alloc::Global;
 use std::cmp::Ordering;
 use wire_bytes::{ByteFault, Cursor, text_span};
@@ -19,7 +21,7 @@ use wire_bytes::{ByteFault, Cursor, text_span};
 pub(crate) fn read_text(
     cursor: &mut Cursor<'_>,
     strings: &[u8],
-) -> Result<(u64, TextPlace), ByteFault>
+) -> Result<(u64, TextSpan), ByteFault>
     requires { length strings.now ≤ 16777216 }
     ensures inside { IfOk result (λ x. IsInside strings.now x.1) }
     ensures progress { OnOk result (length cursor.new.left < length cursor.old.left) }
@@ -30,7 +32,7 @@ pub(crate) fn read_text(
     match text_span(strings, offset) {
         Some(span) => Ok((
             offset,
-            TextPlace {
+            TextSpan {
                 start: span.start as u32,
                 end: span.end as u32,
             },

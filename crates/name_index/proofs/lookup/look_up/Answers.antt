@@ -6,13 +6,13 @@ use Rattle.name_index.proofs.lookup.look_up.Goals as goal
 pub returns-in_err-holder-clause-none : goal.returns-in_err-holder-clause-none
 returns-in_err-holder-clause-none c = if_none _ c.from_residual.result (no_path c.args.own.now c.args.strings.now c.args.packages.now c.args.path.now c.args.name.now c.in_err-holder.ensures.none)
 
-pub find-requires-clause-inside : goal.find-requires-clause-inside
-find-requires-clause-inside c =
+pub find_titled-requires-clause-inside : goal.find_titled-requires-clause-inside
+find_titled-requires-clause-inside c =
     let at = slice_get_read c.args.packages.now _ c.in_ok-holder.holder c.index-packages-holder.result refl c.in_ok-holder.ensures.within c.index-packages-holder.is in
     rw c.as_slice-entries.ensures.value (names_inside c.args.own.now c.args.strings.now c.args.packages.now c.in_ok-holder.holder c.index-packages-holder.result c.requires at)
 
-pub find-requires-clause-rising : goal.find-requires-clause-rising
-find-requires-clause-rising c =
+pub find_titled-requires-clause-rising : goal.find_titled-requires-clause-rising
+find_titled-requires-clause-rising c =
     let at = slice_get_read c.args.packages.now _ c.in_ok-holder.holder c.index-packages-holder.result refl c.in_ok-holder.ensures.within c.index-packages-holder.is in
     rw c.as_slice-entries.ensures.value (names_rise c.args.own.now c.args.strings.now c.args.packages.now c.in_ok-holder.holder c.index-packages-holder.result c.requires at)
 

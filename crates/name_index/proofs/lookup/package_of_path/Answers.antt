@@ -4,8 +4,8 @@ use Rattle.name_index.specs.Records.{IsSearchable}
 use Rattle.name_index.proofs.Holders.{others_rise, no_other, other_found, if_none}
 use Rattle.name_index.proofs.lookup.package_of_path.Goals as goal
 
-pub find-requires-clause-rising : goal.find-requires-clause-rising
-find-requires-clause-rising c =
+pub find_titled-requires-clause-rising : goal.find_titled-requires-clause-rising
+find_titled-requires-clause-rising c =
     others_rise c.args.own.now c.args.strings.now c.in_ok-others.field-0-0.now c.in_ok-others.others.now
     (subst (λ (rs : List PackageRecord). IsSearchable c.args.own.now c.args.strings.now rs) c.in_ok-others.ensures.cases.0 c.requires)
 

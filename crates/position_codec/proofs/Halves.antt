@@ -8,7 +8,7 @@ use Rattle.std.proofs.lemmas.Option.{slice_get-map, slice_get_read}
 use Rattle.std.specs.Cmp.Lexicographic.{slice_cmp}
 use Rattle.std.specs.Ordering.{nat_cmp, ordering_reverse}
 use Rattle.std.specs.declared.cmp.Ordering.TheVariants.{Less, Equal, Greater}
-use Rattle.name_index.specs.Order.{IsBelow, RiseFrom, Rise}
+use Rattle.position_codec.specs.Order.{IsBelow, RiseFrom, Rise}
 
 -- if the text is anywhere, it is from low on and below high
 pub record Within (texts : List (List ℕ)) (text : List ℕ) (low high : ℕ) : Type 0 where

@@ -2,40 +2,33 @@
 
 ghost use Rattle.std.specs.Prelude.{◌≡◌, ◌<◌, ◌^◌, ℕ, List, length, map, Some, IfSome, IfNone, slice_get};
 ghost use Rattle.std.specs.List.{AllByRecursion};
-ghost use Rattle.name_index.specs.Order.{Rise};
-ghost use Rattle.name_index.specs.Records.{IsInside, text_of};
+ghost use Rattle.position_codec.specs.Order.{Rise};
+ghost use Rattle.position_codec.specs.Paths.{IsInside, text_of};
 
-use crate::records::{EntryRecord, PackageRecord, TextPlace, text};
+use crate::spans::{TextSpan, text_of};
 use std::cmp::Ordering;
 
 /// A record that is found by a text of the string section.
-pub(crate) trait Titled {
-    ghost use Rattle.name_index.specs.declared.records.TextPlace.{TextPlace};
+pub trait Titled {
+    ghost use Rattle.position_codec.specs.declared.spans.TextSpan.{TextSpan};
 
-    ghost title: { Self → TextPlace };
+    ghost title: { Self → TextSpan };
 
-    fn title(&self) -> TextPlace
+    fn title(&self) -> TextSpan
         ensures { result ≡ title self.now };
 }
 
-impl Titled for EntryRecord {
-    ghost title = { λ e. e.name };
+impl Titled for TextSpan {
+    ghost title = { λ s. s };
 
-    fn title(&self) -> TextPlace {
-        self.name
+    fn title(&self) -> TextSpan {
+        *self
     }
 }
 
-impl Titled for PackageRecord {
-    ghost title = { λ p. p.path };
-
-    fn title(&self) -> TextPlace {
-        self.path
-    }
-}
-
-/// Which of the records, whose titles rise, has this title. It compares with as many as the number of records has bits.
-pub(crate) fn find<T: Titled>(strings: &[u8], records: &[T], wanted: &[u8]) -> Option<usize>
+/// Which of the records, whose titles rise, has this title. It compares with as many as the number of records has bits, and
+/// takes no memory.
+pub fn find_titled<T: Titled>(strings: &[u8], records: &[T], wanted: &[u8]) -> Option<usize>
     requires small { length records.now < 2 ^ 63 }
     requires inside { AllByRecursion (λ r. IsInside strings.now (T.title r)) records.now }
     requires rising { Rise (map (λ r. text_of strings.now (T.title r)) records.now) }
@@ -47,7 +40,7 @@ pub(crate) fn find<T: Titled>(strings: &[u8], records: &[T], wanted: &[u8]) -> O
     let mut high = records.len();
     while low < high {
         let middle = low + (high - low) / 2;
-        let here = text(strings, records[middle].title());
+        let here = text_of(strings, records[middle].title());
         match here.cmp(wanted) {
             Ordering::Less => low = middle + 1,
             Ordering::Equal => return Some(middle),

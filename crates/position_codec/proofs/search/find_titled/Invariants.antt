@@ -1,7 +1,7 @@
 use Rattle.std.proofs.Common.{◌-◌, map}
-use Rattle.name_index.specs.Records.{text_of}
-use Rattle.name_index.proofs.Halves.{Within}
-use Rattle.name_index.proofs.search.find.Given as goal
+use Rattle.position_codec.specs.Paths.{text_of}
+use Rattle.position_codec.proofs.Halves.{Within}
+use Rattle.position_codec.proofs.search.find_titled.Given as goal
 
 abbrev pub invariant-loop-low : goal.invariant-loop-low
 invariant-loop-low g l = Within (map (λ r. text_of l.strings (g.T.Titled.title r)) l.records) l.wanted l.low l.high
