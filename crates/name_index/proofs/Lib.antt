@@ -9,4 +9,5 @@ pub mod Answers
 pub mod Lookups
 pub mod Listing
 pub mod Sorted
+pub mod Offsets
 pub mod Holders

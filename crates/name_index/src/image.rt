@@ -1,6 +1,6 @@
 //! An open full file.
 
-ghost use Rattle.std.specs.Prelude.{◌≡◌, ◌≤◌, ℕ, length, vec_len, option_map, slice_get, IfOk, IfErr, IfSome, IfNone};
+ghost use Rattle.std.specs.Prelude.{◌≡◌, ◌<◌, ◌≤◌, ℕ, length, vec_len, option_map, slice_get, IfOk, IfErr, IfSome, IfNone};
 ghost use Rattle.wire_bytes.specs.Reading.{GivesBy};
 ghost use Rattle.name_index.specs.FullFile.{FullFile, content, listed};
 ghost use Rattle.name_index.specs.Envelope.{Envelope};
@@ -103,7 +103,8 @@ impl Image {
 
     /// Name `i` of package `k`, and where its declaration stands in the data section.
     pub fn name_in(&self, k: u32, i: u32) -> Option<(&[u8], u64)>
-        ensures { option_map (λ x. (x.0.now, x.1)) result ≡ name_at self.now.packages k i }
+        ensures exact { option_map (λ x. (x.0.now, x.1)) result ≡ name_at self.now.packages k i }
+        ensures inside { IfSome result (λ x. x.1 < self.now.body.len) }
     {
         name(self.strings(), self.layout.packages.as_slice(), k, i)
     }
@@ -111,7 +112,8 @@ impl Image {
     /// Name `k` of the index, counted over all packages: its package's path, the name, and where its declaration stands
     /// in the data section. The package is found by halves.
     pub fn entry(&self, k: u32) -> Option<(&[u8], &[u8], u64)>
-        ensures { option_map (λ x. as_listed x.0.now x.1.now x.2) result ≡ slice_get (listed self.now.packages) k }
+        ensures exact { option_map (λ x. as_listed x.0.now x.1.now x.2) result ≡ slice_get (listed self.now.packages) k }
+        ensures inside { IfSome result (λ x. x.2 < self.now.body.len) }
     {
         entry(
             self.strings(),
@@ -133,6 +135,7 @@ impl Image {
     /// halves.
     pub fn offset_of(&self, path: &[u8], name: &[u8]) -> Option<u64>
         ensures found { IfSome result (λ offset. (k : ℕ) × IsListed self.now.packages k path.now name.now offset) }
+        ensures inside { IfSome result (λ offset. offset < self.now.body.len) }
         ensures none { IfNone result ((k offset : ℕ) → IsListed self.now.packages k path.now name.now offset → ⊥) }
     {
         Some(u64::from(self.look_up(path, name)?.offset))
@@ -140,6 +143,7 @@ impl Image {
 
     fn look_up(&self, path: &[u8], name: &[u8]) -> Option<ListedRecord>
         ensures found { IfSome result (λ x. IsListed self.now.packages x.number path.now name.now x.offset) }
+        ensures inside { IfSome result (λ x. x.offset < self.now.body.len) }
         ensures none { IfNone result ((k offset : ℕ) → IsListed self.now.packages k path.now name.now offset → ⊥) }
     {
         look_up(

@@ -1,6 +1,6 @@
 -- From one line or column to the next, and back.
-use Rattle.std.proofs.Common.{◌≡◌, ◌≢◌, ℕ, zero, suc, ◌+◌, ◌-◌, ◌*◌, ◌/◌, ◌%◌, ◌^◌, ◌<◌, ◌≤◌, Bool, true, false, cond, ltb, Some, None, refl, sym, ap, ◌∙◌, arith, inl, inr}
-use Rattle.std.specs.Prelude.{ℤ, pos, negsuc, ◌==◌}
+use Rattle.std.proofs.Common.{◌≡◌, ◌≢◌, ℕ, zero, suc, ◌+◌, ◌-◌, ◌*◌, ◌/◌, ◌%◌, ◌^◌, ◌<◌, ◌≤◌, Bool, true, false, cond, ltb, Some, None, refl, sym, ap, ◌∙◌, arith, inl, inr, w64}
+use Rattle.std.specs.Prelude.{ℤ, pos, negsuc, FitsSigned, ◌==◌}
 use Rattle.std.proofs.lemmas.Int.{ints}
 use Rattle.std.proofs.lemmas.Bool.{lt-ltb, ltb-true, eqb-true, eqb-false, eq-eqb, ne_eqb, cases_lt}
 use Rattle.wire_bytes.specs.Varint.{number_of}
@@ -55,6 +55,11 @@ delta_up from to false le = omega (arith, ints)
 delta_down : (from to : ℕ) (more : Bool) → to < from → delta from to more ≡ negsuc (2 * (from - to) - 1 - bit more)
 delta_down from to true lt = omega (arith, ints)
 delta_down from to false lt = omega (arith, ints)
+
+-- it is a number of 64 bits
+pub delta_fits : (from to : ℕ) (more : Bool) → from < 2 ^ 32 → to < 2 ^ 32 → FitsSigned w64 (delta from to more)
+delta_fits from to true small small' = omega (arith, ints)
+delta_fits from to false small small' = omega (arith, ints)
 
 moved_up : (from to n : ℕ) → from + n / 2 ≡ to → to < 2 ^ 32 → moved from (half (pos n)) ≡ Some to
 moved_up from to n e small =

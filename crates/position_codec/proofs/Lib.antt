@@ -4,3 +4,4 @@ pub mod Written
 pub mod Readings
 pub mod Halves
 pub mod PathNames
+pub mod EveryPlace

@@ -1,8 +1,8 @@
 -- The parts of a file, as its readers take them.
-use Rattle.std.specs.Prelude.{◌≡◌, ℕ, ◌+◌, ◌≤◌, ◌⊎◌, List, length, map, slice_range}
+use Rattle.std.specs.Prelude.{◌≡◌, ℕ, ◌+◌, ◌≤◌, ◌⊎◌, List, length, slice_range}
 use Rattle.std.specs.List.{AllByRecursion}
 use Rattle.position_codec.specs.declared.parts.Parts.{Parts}
-use Rattle.position_codec.specs.Paths.{text_of, IsInside, ArePathsIn}
+use Rattle.position_codec.specs.Paths.{texts_of, IsInside, ArePathsIn}
 
 -- the string section
 abbrev pub strings_of : Parts → List ℕ
@@ -14,7 +14,7 @@ body_of p = slice_range p.file.now p.body_at (p.body_at + p.body_len)
 
 -- the paths of the index, as they are spelled there
 abbrev pub paths_of : Parts → List (List ℕ)
-paths_of p = map (text_of (strings_of p)) p.paths.now
+paths_of p = texts_of (strings_of p) p.paths.now
 
 -- What the parts of one file keep: both sections lie inside it, the version is one that is known, and the paths are
 -- those of an index of its form.

@@ -1,5 +1,5 @@
 -- The paths of an index, and the texts that stand for them.
-use Rattle.std.specs.Prelude.{◌≡◌, ◌≢◌, ℕ, ◌≤◌, ◌⊎◌, List, [], ◌∷◌, length, map, Option, Some, None, Bool, slice_range, nat_eq, if◌then◌else◌}
+use Rattle.std.specs.Prelude.{◌≡◌, ◌≢◌, ℕ, ◌≤◌, List, [], ◌∷◌, length, map, Option, Some, None, Bool, slice_range, nat_eq, if◌then◌else◌}
 use Rattle.std.specs.List.{AllByRecursion, Contains, list_any}
 use Rattle.std.specs.Option.{option_and_then}
 use Rattle.std.specs.Cmp.Lexicographic.{pointwise}
@@ -12,6 +12,10 @@ use Rattle.position_codec.specs.Order.{RiseFrom, Rise}
 -- the text that stands there in the string section
 abbrev pub text_of : List ℕ → TextSpan → List ℕ
 text_of strings t = slice_range strings t.start t.end
+
+-- the texts that stand at some places
+abbrev pub texts_of : List ℕ → List TextSpan → List (List ℕ)
+texts_of strings spans = map (text_of strings) spans
 
 -- it stands inside the string section
 abbrev pub IsInside : List ℕ → TextSpan → Type 0

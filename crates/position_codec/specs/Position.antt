@@ -1,5 +1,5 @@
 -- A place as it is spelled after the one before it in the same block.
-use Rattle.std.specs.Prelude.{◌≡◌, ◌≢◌, ℕ, ◌^◌, ◌<◌, ◌==◌, not, ℤ, nat_eq, List, ◌++◌, Bool, true, false, Some, None, Result, Ok, ◌⊎◌}
+use Rattle.std.specs.Prelude.{◌≡◌, ◌≢◌, ℕ, ◌^◌, ◌<◌, ◌==◌, not, ℤ, nat_eq, List, ◌++◌, Bool, true, false, if◌then◌else◌, Some, None, Result, Ok, ◌⊎◌}
 use Rattle.std.specs.Cmp.Lexicographic.{pointwise}
 use Rattle.wire_bytes.specs.declared.fault.ByteFault.{ByteFault}
 use Rattle.wire_bytes.specs.declared.fault.ByteFault.TheVariants as faults
@@ -46,6 +46,14 @@ pub record Position (strings : List ℕ) (before : Place) (bytes : List ℕ) (no
   pub line_fits : now.place.line < 2 ^ 32
   pub column_fits : now.place.column < 2 ^ 32
   pub spelled : ColumnAlone before bytes now ⊎ (ColumnAndLine before bytes now ⊎ ColumnLineAndFile strings before bytes now)
+
+-- a place whose line and column have 32 bits
+abbrev pub IsPlace : Place → Type 0
+IsPlace p = (p.line < 2 ^ 32) × (p.column < 2 ^ 32)
+
+-- the place with the offset of its file's name, which is spelled where the file is another one
+abbrev pub named_under : ℕ → Place → Place → Named
+named_under offset before now = record { place = now; name = if pointwise nat_eq before.file now.file then None else Some offset }
 
 -- ---- reading one
 

@@ -1,11 +1,11 @@
 //! The parts of a file, as its readers take them.
 
-ghost use Rattle.std.specs.Prelude.{◌≡◌, ◌+◌, ◌≤◌, ◌&&◌, ◌||◌, nat_eq, List, [], ℕ, length, map, IfSome, IfNone};
+ghost use Rattle.std.specs.Prelude.{◌≡◌, ◌+◌, ◌≤◌, ◌&&◌, ◌||◌, nat_eq, List, [], ℕ, length, IfSome, IfNone};
 ghost use Rattle.std.specs.Cmp.Lexicographic.{pointwise};
 ghost use Rattle.std.specs.Option.{option_copied};
 ghost use Rattle.std.specs.List.{AllByRecursion};
 ghost use Rattle.position_codec.specs.Order.{Rise};
-ghost use Rattle.position_codec.specs.Paths.{IsInside, text_of, IsPathAt, is_among, path_for, path_in};
+ghost use Rattle.position_codec.specs.Paths.{IsInside, texts_of, IsPathAt, is_among, path_for, path_in};
 ghost use Rattle.position_codec.specs.FileParts.{strings_of, body_of, paths_of, IsOfFile};
 
 use crate::search::find_titled;
@@ -79,10 +79,10 @@ fn path_at<'a>(
     offset: u64,
 ) -> Option<&'a [u8]>
     requires inside { AllByRecursion (λ s. IsInside strings.now s) paths.now }
-    requires rising { Rise (map (text_of strings.now) paths.now) }
-    ensures found { IfSome result (λ path. IsPathAt strings.now own.now (map (text_of strings.now) paths.now) offset path.now) }
-    ensures none { IfNone result ((path : List ℕ) → IsPathAt strings.now own.now (map (text_of strings.now) paths.now) offset path → ⊥) }
-    ensures exact { option_copied result ≡ path_in strings.now own.now (map (text_of strings.now) paths.now) offset }
+    requires rising { Rise (texts_of strings.now paths.now) }
+    ensures found { IfSome result (λ path. IsPathAt strings.now own.now (texts_of strings.now paths.now) offset path.now) }
+    ensures none { IfNone result ((path : List ℕ) → IsPathAt strings.now own.now (texts_of strings.now paths.now) offset path → ⊥) }
+    ensures exact { option_copied result ≡ path_in strings.now own.now (texts_of strings.now paths.now) offset }
 {
     path_for(strings, own, paths, text_at(strings, offset)?)
 }
@@ -95,8 +95,8 @@ fn path_for<'a>(
     text: &'a [u8],
 ) -> Option<&'a [u8]>
     requires inside { AllByRecursion (λ s. IsInside strings.now s) paths.now }
-    requires rising { Rise (map (text_of strings.now) paths.now) }
-    ensures { option_copied result ≡ path_for own.now (map (text_of strings.now) paths.now) text.now }
+    requires rising { Rise (texts_of strings.now paths.now) }
+    ensures { option_copied result ≡ path_for own.now (texts_of strings.now paths.now) text.now }
 {
     if text.is_empty() {
         return is_listed(strings, paths, text).then_some(own);
@@ -107,8 +107,8 @@ fn path_for<'a>(
 /// Whether a text is a path of the index, or the own path where the index has the empty text for it.
 fn is_path(strings: &[u8], own: &[u8], paths: &[TextSpan], text: &[u8]) -> bool
     requires inside { AllByRecursion (λ s. IsInside strings.now s) paths.now }
-    requires rising { Rise (map (text_of strings.now) paths.now) }
-    ensures { result ≡ (is_among (map (text_of strings.now) paths.now) text.now || (pointwise nat_eq text.now own.now && is_among (map (text_of strings.now) paths.now) [])) }
+    requires rising { Rise (texts_of strings.now paths.now) }
+    ensures { result ≡ (is_among (texts_of strings.now paths.now) text.now || (pointwise nat_eq text.now own.now && is_among (texts_of strings.now paths.now) [])) }
 {
     is_listed(strings, paths, text) || text == own && is_listed(strings, paths, &[])
 }
@@ -116,8 +116,8 @@ fn is_path(strings: &[u8], own: &[u8], paths: &[TextSpan], text: &[u8]) -> bool
 /// Whether the index spells a path so.
 fn is_listed(strings: &[u8], paths: &[TextSpan], path: &[u8]) -> bool
     requires inside { AllByRecursion (λ s. IsInside strings.now s) paths.now }
-    requires rising { Rise (map (text_of strings.now) paths.now) }
-    ensures { result ≡ is_among (map (text_of strings.now) paths.now) path.now }
+    requires rising { Rise (texts_of strings.now paths.now) }
+    ensures { result ≡ is_among (texts_of strings.now paths.now) path.now }
 {
     find_titled(strings, paths, path).is_some()
 }

@@ -64,6 +64,41 @@ fn there_and_back(rt: HostRuntime) -> Result<(), Fail> {
     Ok(())
 }
 
+// Lines and columns of the file "p.go", each the first of a block, with its bytes.
+const FIRST: [(u32, u32, &[u8]); 7] = [
+    (2, 7, &[0x1e, 0x0a, 0]),
+    (2, 6, &[0x1a, 0x0a, 0]),
+    (7, 2, &[0x0a, 0x1e, 0]),
+    (16, 6, &[0x1a, 0x42, 0]),
+    (20, 6, &[0x1a, 0x52, 0]),
+    (0, 0, &[0x02, 0x02, 0]),
+    (
+        u32::MAX,
+        u32::MAX,
+        &[0xfe, 255, 255, 255, 0x3f, 0xfe, 255, 255, 255, 0x3f, 0],
+    ),
+];
+
+#[test]
+fn first_of_a_block(rt: HostRuntime) -> Result<(), Fail> {
+    let alloc = rt.alloc();
+    for (line, column, bytes) in FIRST {
+        let pos = place(alloc, b"p.go", line, column)?;
+        let mut writer = Writer::new(alloc);
+        let mut strings = Strings::new(alloc);
+        let mut prev = PrevPos::start(alloc);
+        write_full(alloc, &mut writer, &mut strings, &mut prev, &pos)?;
+        assert_eq!(rt; writer.bytes(), bytes, "at {line}:{column}");
+        let mut cursor = Cursor::new(bytes, 0, bytes.len());
+        let read = read_full(alloc, &mut cursor, &PARTS, &mut PrevPos::start(alloc));
+        assert!(rt;
+            matches!(&read, Ok(same) if *same == pos),
+            "at {line}:{column}"
+        );
+    }
+    Ok(())
+}
+
 #[test]
 fn at_the_start(rt: HostRuntime) -> Result<(), Fail> {
     let alloc = rt.alloc();

@@ -1,6 +1,6 @@
-use Rattle.std.proofs.Common.{List, ℕ, Option, ap, map, ◌∙◌}
+use Rattle.std.proofs.Common.{List, ℕ, Option, ap, ◌∙◌}
 use Rattle.std.specs.Option.{option_and_then}
-use Rattle.position_codec.specs.Paths.{text_of, path_for}
+use Rattle.position_codec.specs.Paths.{texts_of, path_for}
 use Rattle.position_codec.proofs.PathNames.{path_found, no_path}
 use Rattle.position_codec.proofs.parts.path_at.Goals as goal
 
@@ -9,10 +9,10 @@ returns-in_err-text_at-clause-none c = rw c.from_residual.ensures (λ path stand
 
 pub returns-clause-found : goal.returns-clause-found
 returns-clause-found c =
-    path_found c.args.strings.now c.args.own.now (map (text_of c.args.strings.now) c.args.paths.now) c.args.offset c.in_ok-text_at.field-0.now c.path_for.result c.in_ok-text_at.ensures.found c.path_for.ensures
+    path_found c.args.strings.now c.args.own.now (texts_of c.args.strings.now c.args.paths.now) c.args.offset c.in_ok-text_at.field-0.now c.path_for.result c.in_ok-text_at.ensures.found c.path_for.ensures
 
 pub returns-clause-none : goal.returns-clause-none
 returns-clause-none c =
-    let paths = map (text_of c.args.strings.now) c.args.paths.now in
+    let paths = texts_of c.args.strings.now c.args.paths.now in
     no_path c.args.strings.now c.args.own.now paths c.args.offset c.path_for.result
     (c.path_for.ensures ∙ ap (λ (t : Option (List ℕ)). option_and_then (path_for c.args.own.now paths) t) c.in_ok-text_at.ensures.exact)

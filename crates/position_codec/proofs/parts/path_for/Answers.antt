@@ -1,10 +1,10 @@
-use Rattle.std.proofs.Common.{map, ap, ◌∙◌}
+use Rattle.std.proofs.Common.{ap, ◌∙◌}
 use Rattle.std.specs.Option.{option_copied}
-use Rattle.position_codec.specs.Paths.{text_of}
+use Rattle.position_codec.specs.Paths.{texts_of}
 use Rattle.position_codec.proofs.PathNames.{path_for_text, copied_then}
 use Rattle.position_codec.proofs.parts.path_for.Goals as goal
 
 pub returns : goal.returns
 returns c =
     ap option_copied c.then_some-2.ensures ∙ copied_then c.is_path.result c.args.text
-    ∙ path_for_text c.args.own.now (map (text_of c.args.strings.now) c.args.paths.now) c.args.text.now c.is_path.result c.if-is_empty.ensures c.is_path.ensures
+    ∙ path_for_text c.args.own.now (texts_of c.args.strings.now c.args.paths.now) c.args.text.now c.is_path.result c.if-is_empty.ensures c.is_path.ensures
