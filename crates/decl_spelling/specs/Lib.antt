@@ -1,0 +1,10 @@
+pub mod Source
+pub mod Reading
+pub mod Codes
+pub mod Descriptors
+pub mod Tables
+pub mod Descent
+pub mod Constants
+pub mod Declarations
+pub mod Grammar
+pub mod Spelling

@@ -1,0 +1,42 @@
+-- The descriptors that were read whole in the reading of one declaration.
+use Rattle.std.specs.Prelude.{◌≡◌, ℕ, ◌-◌, List, [], ◌∷◌, Bool, true, false, Option, Some, None, cond, nat_lt, nat_le, nat_eq}
+use Rattle.std.specs.Ordering.{nat_cmp}
+use Rattle.std.specs.Map.{lookup}
+use Rattle.std.specs.Ordering.{is_eq}
+use Rattle.std.specs.BTreeMap.{insert_entry}
+use Rattle.code_tables.specs.declared.predeclared.Basic.{Basic}
+use Rattle.code_tables.specs.declared.predeclared.Basic.TheVariants.{Bool as bool_type}
+use Rattle.type_terms.specs.Trees.{Tree, predeclared}
+use Rattle.decl_spelling.specs.Codes.{basic_of}
+
+-- where a descriptor ends in the data section, and the type that it spells
+pub record Finished : Type 0 where
+  pub end : ℕ
+  pub tree : Tree
+
+-- the offsets of descriptors, in their order, and what stands there
+abbrev pub Table : Type 0
+Table = List (ℕ × Finished)
+
+abbrev pub at : Table → ℕ → Option Finished
+at done offset = lookup (λ start. is_eq (nat_cmp offset start)) done
+
+abbrev pub with_block : Table → ℕ → Finished → Table
+with_block done offset finished = insert_entry nat_cmp done offset finished
+
+-- the first byte from the offset on that a descriptor of the table has, or else the limit
+abbrev pub free_to : ℕ → ℕ → Table → ℕ
+free_to offset limit [] = limit
+free_to offset limit (entry ∷ rest) = cond (nat_le entry.1.end offset) (free_to offset limit rest) (cond (nat_le entry.0 offset) offset (cond (nat_lt entry.0 limit) entry.0 limit))
+
+abbrev pub basic_tree : Option Basic → Tree
+basic_tree (Some basic) = predeclared basic
+basic_tree None = predeclared bool_type
+
+abbrev pub finished_tree : Option Finished → Tree
+finished_tree (Some finished) = finished.tree
+finished_tree None = predeclared bool_type
+
+-- the type that a typeOff names; one that names none gives some type
+abbrev pub type_named : ℕ → Table → ℕ → Tree
+type_named version done number = cond (nat_lt number 32) (basic_tree (basic_of version number)) (finished_tree (at done (number - 32)))

@@ -1,0 +1,7 @@
+//! Which bytes of a file spell a declaration, and the first fault of those that spell none. The definitions and their laws stand
+//! here, below the reader and the writer, which both cite them; docs/FORMAT.md has the rules in words.
+#![tactic(auto)]
+
+mod mention;
+
+pub use mention::{Demand, Mention};
