@@ -1,1 +1,6 @@
 pub mod Took
+pub mod Readers
+pub mod ReaderSteps
+pub mod Taken
+pub mod BaseReaders
+pub mod ListReaders
