@@ -4,3 +4,4 @@ pub mod ReaderSteps
 pub mod Taken
 pub mod BaseReaders
 pub mod ListReaders
+pub mod CodeLaws

@@ -98,3 +98,63 @@ module _ {X Y Z V W : Type 0} (p : Reader X) (q : Reader Y) (r : Reader Z) (s : 
         let k = split a w b t in
         omega (arith, rp.shrinks a k.x k.at_y k.first, rq.shrinks k.at_y k.y k.at_z k.second, rr.shrinks k.at_z k.z k.at_v k.third, rs.shrinks k.at_v k.v b k.fourth);
   }
+
+module _ {X Y Z V U W : Type 0} (p : Reader X) (q : Reader Y) (r : Reader Z) (s : Reader V) (t : Reader U)
+    (F : Here → X → Here → Type 0) (G : Here → Y → Here → Type 0) (H : Here → Z → Here → Type 0) (I : Here → V → Here → Type 0) (J : Here → U → Here → Type 0)
+    (asks_x : X → List Ask) (asks_y : Y → List Ask) (asks_z : Z → List Ask) (asks_v : V → List Ask) (asks_u : U → List Ask) (make : X → Y → Z → V → U → W) (T : Here → W → Here → Type 0) (all : W → List Ask) where
+  pub record Five (a : Here) (w : W) (b : Here) : Type 0 where
+    pub x : X
+    pub y : Y
+    pub z : Z
+    pub v : V
+    pub u : U
+    pub at_y : Here
+    pub at_z : Here
+    pub at_v : Here
+    pub at_u : Here
+    pub first : F a x at_y
+    pub second : G at_y y at_z
+    pub third : H at_z z at_v
+    pub fourth : I at_v v at_u
+    pub fifth : J at_u u b
+    pub made : w ≡ make x y z v u
+
+  pub five_reads : {Given : Type 0} → Reads Given p F asks_x → Reads Given q G asks_y → Reads Given r H asks_z → Reads Given s I asks_v → Reads Given t J asks_u
+      → ((x : X) (y : Y) (z : Z) (v : V) (u : U) → asks_x x ++ (asks_y y ++ (asks_z z ++ (asks_v v ++ asks_u u))) ≡ all (make x y z v u))
+      → ((a : Here) (x : X) (b : Here) (y : Y) (c : Here) (z : Z) (d : Here) (v : V) (e : Here) (u : U) (f : Here) → F a x b → G b y c → H c z d → I d v e → J e u f → T a (make x y z v u) f)
+      → ((a : Here) (w : W) (b : Here) → T a w b → Five a w b)
+      → Reads Given (λ a. p a >>= λ x. q x.1 >>= λ y. r y.1 >>= λ z. s z.1 >>= λ v. t v.1 >>= λ u. Ok (make x.0 y.0 z.0 v.0 u.0, u.1)) T all
+  five_reads rp rq rr rs rt same join split = record {
+    takes = λ given a fits. then_answers F asks_x T all a a [] (p a) (λ x. q x.1 >>= λ y. r y.1 >>= λ z. s z.1 >>= λ v. t v.1 >>= λ u. Ok (make x.0 y.0 z.0 v.0 u.0, u.1)) (went_nowhere a fits) (rp.takes given a fits)
+        (λ x b tx. then_answers G asks_y T all a b (asks_x x) (q b) (λ y. r y.1 >>= λ z. s z.1 >>= λ v. t v.1 >>= λ u. Ok (make x y.0 z.0 v.0 u.0, u.1)) tx.went (rq.takes given b tx.went.fits)
+          (λ y c ty.
+            let two = went_on a b c (asks_x x) (asks_y y) tx.went ty.went in
+            then_answers H asks_z T all a c (asks_x x ++ asks_y y) (r c) (λ z. s z.1 >>= λ v. t v.1 >>= λ u. Ok (make x y z.0 v.0 u.0, u.1)) two (rr.takes given c two.fits)
+            (λ z d tz.
+              let three = went_on a c d (asks_x x ++ asks_y y) (asks_z z) two tz.went in
+              then_answers I asks_v T all a d ((asks_x x ++ asks_y y) ++ asks_z z) (s d) (λ v. t v.1 >>= λ u. Ok (make x y z v.0 u.0, u.1)) three (rs.takes given d three.fits)
+              (λ v e tv.
+                let four = went_on a d e ((asks_x x ++ asks_y y) ++ asks_z z) (asks_v v) three tv.went in
+                then_answers J asks_u T all a e (((asks_x x ++ asks_y y) ++ asks_z z) ++ asks_v v) (t e) (λ u. Ok (make x y z v u.0, u.1)) four (rt.takes given e four.fits)
+                (λ u f tu. record {
+                  stands = λ tail. join _ _ _ _ _ _ _ _ _ _ _ (tx.stands tail) (ty.stands tail) (tz.stands tail) (tv.stands tail) (tu.stands tail);
+                  went = subst (λ ks. Went a ks f) (same x y z v u)
+                      (went_on a b f (asks_x x) (asks_y y ++ (asks_z z ++ (asks_v v ++ asks_u u))) tx.went
+                      (went_on b c f (asks_y y) (asks_z z ++ (asks_v v ++ asks_u u)) ty.went
+                      (went_on c d f (asks_z z) (asks_v v ++ asks_u u) tz.went (went_on d e f (asks_v v) (asks_u u) tv.went tu.went))));
+                })))));
+    again = λ a tail w after stands le.
+        let k = split (seen_from a tail) w after stands in
+        let le_u : length tail ≤ length k.at_u.left = omega (arith, le, rt.shrinks k.at_u k.u after k.fifth) in
+        let le_v : length tail ≤ length k.at_v.left = omega (arith, le_u, rs.shrinks k.at_v k.v k.at_u k.fourth) in
+        let le_z : length tail ≤ length k.at_z.left = omega (arith, le_v, rr.shrinks k.at_z k.z k.at_v k.third) in
+        let first = rp.again a tail k.x k.at_y k.first (omega (arith, le_z, rq.shrinks k.at_y k.y k.at_z k.second)) in
+        let second = rq.again first.0 tail k.y k.at_z (subst (λ m. G m k.y k.at_z) first.2 k.second) le_z in
+        let third = rr.again second.0 tail k.z k.at_v (subst (λ m. H m k.z k.at_v) second.2 k.third) le_v in
+        let fourth = rs.again third.0 tail k.v k.at_u (subst (λ m. I m k.v k.at_u) third.2 k.fourth) le_u in
+        let fifth = rt.again fourth.0 tail k.u after (subst (λ m. J m k.u after) fourth.2 k.fifth) le in
+        (fifth.0, rw (first.1, second.1, third.1, fourth.1, fifth.1) (ap (λ w. Ok (w, fifth.0)) (sym k.made)), fifth.2);
+    shrinks = λ a w b stands.
+        let k = split a w b stands in
+        omega (arith, rp.shrinks a k.x k.at_y k.first, rq.shrinks k.at_y k.y k.at_z k.second, rr.shrinks k.at_z k.z k.at_v k.third, rs.shrinks k.at_v k.v k.at_u k.fourth, rt.shrinks k.at_u k.u b k.fifth);
+  }
