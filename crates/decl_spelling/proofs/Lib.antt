@@ -5,3 +5,4 @@ pub mod Taken
 pub mod BaseReaders
 pub mod ListReaders
 pub mod CodeLaws
+pub mod FlatReaders
