@@ -1,6 +1,6 @@
 -- A number stands for the value whose code it is.
 use Rattle.std.proofs.Common.{◌≡◌, ◌≢◌, ℕ, Bool, true, false, List, [], ◌∷◌, ◌&&◌, cond, Option, Some, None, refl, sym, ap, subst, ◌∙◌, inl, inr, arith}
-use Rattle.std.specs.Prelude.{◌==◌, nat_le, IfSome, IfNone}
+use Rattle.std.specs.Prelude.{◌==◌, nat_le, IfSome, IfNone, slice_index}
 use Rattle.std.proofs.lemmas.Bool.{eqb-true}
 use Rattle.code_tables.specs.declared.predeclared.Basic.{Basic}
 use Rattle.code_tables.specs.declared.predeclared.Basic.TheVariants as b
@@ -40,6 +40,12 @@ module _ {T : Type 0} (code : T → ℕ) where
       by : (o : Option T) → coded code values n ≡ o → o ≡ None
       by (Some v) e = absurd (missing v (coded_takes values n v e))
       by None e = refl
+
+  -- the same of a table that has each value's code at its number
+  pub table_answers : (values : List T) → ((v : T) → coded code values (code v) ≡ Some v) → (number : T → ℕ) (codes : List ℕ) → ((v : T) → slice_index codes (number v) ≡ code v) → (n : ℕ) (result : Option T)
+      → IfSome result (λ v. slice_index codes (number v) ≡ n) → IfNone result ((v : T) → slice_index codes (number v) ≢ n) → result ≡ coded code values n
+  table_answers values found number codes its n (Some v) has missing = is_coded values found n (Some v) (sym (its v) ∙ has) tt
+  table_answers values found number codes its n None has missing = is_coded values found n None tt (λ v e. missing v (its v ∙ e))
 
 pub basic_again : (v : Basic) → coded basic_code basic_values (basic_code v) ≡ Some v
 basic_again b.Bool = refl

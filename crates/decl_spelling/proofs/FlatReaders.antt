@@ -29,7 +29,7 @@ make_param pos name type = record { pos = pos; name = name; type = type }
 abbrev pub param_asks : Param → List Ask
 param_asks x = (x.type, Any) ∷ []
 
-abbrev types_of_param : Param → List ℕ
+abbrev pub types_of_param : Param → List ℕ
 types_of_param x = param_types x
 
 pub param_reads : (src : Source) → Reads (IsBytes src.strings) (param_at src) (IsParam src) param_asks
@@ -78,7 +78,7 @@ make_field pos name type embedded tag = record { origin = no_origin; pos = pos; 
 abbrev pub field_asks : Field → List Ask
 field_asks x = (x.type, Any) ∷ []
 
-abbrev types_of_field : Field → List ℕ
+abbrev pub types_of_field : Field → List ℕ
 types_of_field x = field_types x
 
 pub field_reads : (src : Source) → Reads (IsBytes src.strings) (field_at src) (IsField src) field_asks
@@ -104,7 +104,7 @@ make_method pos name sig = record { origin = no_origin; pos = pos; name = name; 
 abbrev pub method_asks : Method → List Ask
 method_asks x = sig_asks x.sig
 
-abbrev types_of_method : Method → List ℕ
+abbrev pub types_of_method : Method → List ℕ
 types_of_method x = method_types x
 
 pub method_reads : (src : Source) → Reads (IsBytes src.strings) (method_at src) (IsMethod src) method_asks
@@ -137,7 +137,7 @@ make_term tilde type = record { tilde = tilde; type = type }
 abbrev pub term_asks : TermOf ℕ → List Ask
 term_asks x = (x.type, Any) ∷ []
 
-abbrev types_of_term : TermOf ℕ → List ℕ
+abbrev pub types_of_term : TermOf ℕ → List ℕ
 types_of_term x = term_types x
 
 pub term_reads : {Given : Type 0} → Reads Given term_at IsTerm term_asks

@@ -6,3 +6,4 @@ pub mod BaseReaders
 pub mod ListReaders
 pub mod CodeLaws
 pub mod FlatReaders
+pub mod DescriptorReaders
