@@ -7,3 +7,4 @@ pub mod ListReaders
 pub mod CodeLaws
 pub mod FlatReaders
 pub mod DescriptorReaders
+pub mod HeadReaders

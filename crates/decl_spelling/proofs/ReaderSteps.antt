@@ -20,11 +20,12 @@ module _ {X Y Z W : Type 0} (p : Reader X) (q : Reader Y) (r : X → Ahead → Y
     pub third : H x y at_z z b
     pub made : w ≡ make x y z
 
-  pub three_reads : {Given : Type 0} → Reads Given p F asks_x → Reads Given q G asks_y → ((x : X) (b : Ahead) (y : Y) → Reads Given (r x b y) (H x y) (asks_z x y))
-      → ((x : X) (y : Y) (z : Z) → asks_x x ++ (asks_y y ++ asks_z x y z) ≡ all (make x y z))
+  -- What is asked may rest on what the second reader found.
+  pub three_reads_where : {Given : Type 0} → Reads Given p F asks_x → Reads Given q G asks_y → ((x : X) (b : Ahead) (y : Y) → Reads Given (r x b y) (H x y) (asks_z x y))
+      → ((x : X) (b c : Here) (y : Y) (z : Z) → G b y c → asks_x x ++ (asks_y y ++ asks_z x y z) ≡ all (make x y z))
       → ((a : Here) (x : X) (b : Here) (y : Y) (c : Here) (z : Z) (d : Here) → F a x b → G b y c → H x y c z d → T a (make x y z) d) → ((a : Here) (w : W) (b : Here) → T a w b → Three a w b)
       → Reads Given (λ a. p a >>= λ x. q x.1 >>= λ y. r x.0 x.1 y.0 y.1 >>= λ z. Ok (make x.0 y.0 z.0, z.1)) T all
-  three_reads rp rq rr same join split = record {
+  three_reads_where rp rq rr same join split = record {
     takes = λ given a fits. then_answers F asks_x T all a a [] (p a) (λ x. q x.1 >>= λ y. r x.0 x.1 y.0 y.1 >>= λ z. Ok (make x.0 y.0 z.0, z.1)) (went_nowhere a fits) (rp.takes given a fits)
         (λ x b tx. then_answers G asks_y T all a b (asks_x x) (q b) (λ y. r x b y.0 y.1 >>= λ z. Ok (make x y.0 z.0, z.1)) tx.went (rq.takes given b tx.went.fits)
           (λ y c ty.
@@ -32,7 +33,7 @@ module _ {X Y Z W : Type 0} (p : Reader X) (q : Reader Y) (r : X → Ahead → Y
             then_answers (H x y) (asks_z x y) T all a c (asks_x x ++ asks_y y) (r x b y c) (λ z. Ok (make x y z.0, z.1)) two ((rr x b y).takes given c two.fits)
             (λ z d tz. record {
               stands = λ tail. join _ _ _ _ _ _ _ (tx.stands tail) (ty.stands tail) (tz.stands tail);
-              went = subst (λ ks. Went a ks d) (same x y z) (went_on a b d (asks_x x) (asks_y y ++ asks_z x y z) tx.went (went_on b c d (asks_y y) (asks_z x y z) ty.went tz.went));
+              went = subst (λ ks. Went a ks d) (same x _ _ y z (ty.stands [])) (went_on a b d (asks_x x) (asks_y y ++ asks_z x y z) tx.went (went_on b c d (asks_y y) (asks_z x y z) ty.went tz.went));
             })));
     again = λ a tail w after t le.
         let s = split (seen_from a tail) w after t in
@@ -49,6 +50,12 @@ module _ {X Y Z W : Type 0} (p : Reader X) (q : Reader Y) (r : X → Ahead → Y
       -- somewhere, since what stands doesn't depend on it
       nowhere : Here → Ahead
       nowhere h = record { spot = record { end = 0; left = h.left }; before = record { place = h.before; name = None }; mentions = [] }
+
+  pub three_reads : {Given : Type 0} → Reads Given p F asks_x → Reads Given q G asks_y → ((x : X) (b : Ahead) (y : Y) → Reads Given (r x b y) (H x y) (asks_z x y))
+      → ((x : X) (y : Y) (z : Z) → asks_x x ++ (asks_y y ++ asks_z x y z) ≡ all (make x y z))
+      → ((a : Here) (x : X) (b : Here) (y : Y) (c : Here) (z : Z) (d : Here) → F a x b → G b y c → H x y c z d → T a (make x y z) d) → ((a : Here) (w : W) (b : Here) → T a w b → Three a w b)
+      → Reads Given (λ a. p a >>= λ x. q x.1 >>= λ y. r x.0 x.1 y.0 y.1 >>= λ z. Ok (make x.0 y.0 z.0, z.1)) T all
+  three_reads rp rq rr same = three_reads_where rp rq rr (λ x b c y z found. same x y z)
 
 module _ {X Y Z V W : Type 0} (p : Reader X) (q : Reader Y) (r : Reader Z) (s : Reader V) (F : Here → X → Here → Type 0) (G : Here → Y → Here → Type 0) (H : Here → Z → Here → Type 0) (I : Here → V → Here → Type 0)
     (asks_x : X → List Ask) (asks_y : Y → List Ask) (asks_z : Z → List Ask) (asks_v : V → List Ask) (make : X → Y → Z → V → W) (T : Here → W → Here → Type 0) (all : W → List Ask) where

@@ -59,7 +59,7 @@ then_answers F asks G all a b before (Ok y) f went h next = next y.0 y.1 h
 then_answers F asks G all a b before (Err s) f went h next = few_later a b before s went h
 
 -- the rest of a reader that started at a and named no type up to b
-onward_answers : {Z : Type 0} (F : Here → Z → Here → Type 0) (all : Z → List Ask) (T : Here → Z → Here → Type 0) (a b : Ahead) (r : Result (Z × Ahead) Stopped)
+pub onward_answers : {Z : Type 0} (F : Here → Z → Here → Type 0) (all : Z → List Ask) (T : Here → Z → Here → Type 0) (a b : Ahead) (r : Result (Z × Ahead) Stopped)
     → Went a [] b → Answered F all b r → ((z : Z) (c : Ahead) → Took F all b z c → (tail : List ℕ) → T (seen_from a tail) z (seen_from c tail)) → Answered T all a r
 onward_answers F all T a b (Ok z) went h stands = record { stands = stands z.0 z.1 h; went = went_on a b z.1 [] (all z.0) went h.went }
 onward_answers F all T a b (Err s) went h stands = few_later a b [] s went h

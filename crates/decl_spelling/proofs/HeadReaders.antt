@@ -1,0 +1,202 @@
+-- The readers of declarations, up to where types decide what follows, and of methods.
+use Rattle.std.proofs.Common.{◌≡◌, ℕ, ◌<◌, ◌≤◌, Bool, true, false, List, [], ◌∷◌, ◌++◌, length, map, Option, Some, None, Result, Ok, Err, refl, sym, ap, subst, ◌∙◌, arith}
+use Rattle.std.specs.List.{flat_map}
+use Rattle.std.proofs.lemmas.List.Concat.{flat_map_single}
+use Rattle.code_tables.specs.declared.positions.Pos.{Pos}
+use Rattle.code_tables.specs.declared.declarations.DeclTag.{DeclTag}
+use Rattle.code_tables.specs.declared.declarations.DeclTag.TheVariants.{Var, Func, GenericFunc, Const as ConstTag, Defined, GenericDefined, Alias, GenericAlias, TypeParameter}
+use Rattle.code_tables.specs.DeclTag.{decl_tag_code}
+use Rattle.wire_bytes.specs.declared.fault.ByteFault.TheVariants as faults
+use Rattle.wire_bytes.specs.Reading.{Spot, place, onward, ◌>>=◌, byte_at}
+use Rattle.wire_bytes.specs.Begins.{Begins}
+use Rattle.wire_bytes.proofs.Spellings.{IsBytes}
+use Rattle.wire_bytes.proofs.Many.{Takes}
+use Rattle.wire_bytes.proofs.Cursors.{byte_at_takes, byte_at_again}
+use Rattle.type_terms.specs.Trees.{Text}
+use Rattle.type_terms.specs.Shapes.{sig_types}
+use Rattle.type_terms.specs.Declarations.{var_of, function_of, constant_of, defined_of, renamed_of, type_parameter_of, receiver_types}
+use Rattle.decl_spelling.specs.declared.mention.Demand.{Demand}
+use Rattle.decl_spelling.specs.declared.mention.Demand.TheVariants.{Any, Parameter, Underlying, NoParameter, Interface}
+use Rattle.decl_spelling.specs.Source.{Source}
+use Rattle.decl_spelling.specs.Codes.{decl_tag_of}
+use Rattle.decl_spelling.specs.Reading.{Ahead, Reader, Stopped, or_stop, plain, truth_at, text_at, pos_at, type_at, list_at, some_at}
+use Rattle.decl_spelling.specs.Descriptors.{Param, Sig, param_at, sig_at}
+use Rattle.decl_spelling.specs.Declarations.{Receiver, Head, whole, of_type, of_constant, tparams_at, var_at, func_decl_at, generic_func_at, constant_at, defined_at, generic_defined_at, alias_at, generic_alias_at, constraint_demand, parameter_at, head_by, head_at, receiver_at}
+use Rattle.decl_spelling.specs.Grammar.{Here, IsNumber, IsTruth, IsText, IsPos, IsList, IsParam, IsSig}
+use Rattle.decl_spelling.specs.Spelling.{IsReceiver}
+use Rattle.decl_spelling.proofs.Took.{Ask, asking, unplaced, seen_from, Fits, Went, Took, Few, Again, IsHeadParts, kind_of_head, IsHead, head_asks, unplaced_head}
+use Rattle.decl_spelling.proofs.Readers.{went_nowhere, went_on, Answered, Reads, nothing, ask_reads, then_answers, judged_answers, onward_answers, two_reads}
+use Rattle.decl_spelling.proofs.ReaderSteps.{three_reads, three_reads_where, four_reads}
+use Rattle.decl_spelling.proofs.BaseReaders.{plain_reads, number_reads, truth_reads, text_reads, pos_reads, type_reads}
+use Rattle.decl_spelling.proofs.ListReaders.{IsSome, some_reads, list_reads, asking-flat}
+use Rattle.decl_spelling.proofs.CodeLaws.{decl_tag_of_takes}
+use Rattle.decl_spelling.proofs.FlatReaders.{any_type, param_asks, param_reads, sig_asks, sig_reads}
+
+-- the parts of a head of this kind
+abbrev pub IsHeadOf : Source → DeclTag → Here → Head → Here → Type 0
+IsHeadOf src Var a x b = (pos : Pos) × (type : ℕ) × (x ≡ whole (var_of pos type)) × IsHeadParts src a (whole (var_of pos type)) b
+IsHeadOf src Func a x b = (pos : Pos) × (sig : Sig) × (x ≡ whole (function_of pos [] sig)) × IsHeadParts src a (whole (function_of pos [] sig)) b
+IsHeadOf src GenericFunc a x b = (pos : Pos) × (t : ℕ) × (ts : List ℕ) × (sig : Sig) × (x ≡ whole (function_of pos (t ∷ ts) sig)) × IsHeadParts src a (whole (function_of pos (t ∷ ts) sig)) b
+IsHeadOf src ConstTag a x b = (pos : Pos) × (type at : ℕ) × (x ≡ of_constant pos type at) × IsHeadParts src a (of_constant pos type at) b
+IsHeadOf src Defined a x b = (pos : Pos) × (type : ℕ) × (x ≡ of_type pos [] type) × IsHeadParts src a (of_type pos [] type) b
+IsHeadOf src GenericDefined a x b = (pos : Pos) × (t : ℕ) × (ts : List ℕ) × (type : ℕ) × (x ≡ of_type pos (t ∷ ts) type) × IsHeadParts src a (of_type pos (t ∷ ts) type) b
+IsHeadOf src Alias a x b = (pos : Pos) × (type : ℕ) × (x ≡ whole (renamed_of pos [] type)) × IsHeadParts src a (whole (renamed_of pos [] type)) b
+IsHeadOf src GenericAlias a x b = (pos : Pos) × (t : ℕ) × (ts : List ℕ) × (type : ℕ) × (x ≡ whole (renamed_of pos (t ∷ ts) type)) × IsHeadParts src a (whole (renamed_of pos (t ∷ ts) type)) b
+IsHeadOf src TypeParameter a x b = (pos : Pos) × (implicit : Bool) × (constraint : ℕ) × (x ≡ whole (type_parameter_of pos implicit constraint)) × IsHeadParts src a (whole (type_parameter_of pos implicit constraint)) b
+
+-- its kind, and its parts
+abbrev KindAndParts : Source → DeclTag → Here → Here → Head → Type 0
+KindAndParts src tag a b x = (kind_of_head x ≡ tag) × IsHeadParts src a x b
+
+kind_and_parts : (src : Source) (tag : DeclTag) (a : Here) (x : Head) (b : Here) → IsHeadOf src tag a x b → KindAndParts src tag a b x
+kind_and_parts src Var a x b w = subst (KindAndParts src Var a b) (sym w.2) (refl, w.3)
+kind_and_parts src Func a x b w = subst (KindAndParts src Func a b) (sym w.2) (refl, w.3)
+kind_and_parts src GenericFunc a x b w = subst (KindAndParts src GenericFunc a b) (sym w.4) (refl, w.5)
+kind_and_parts src ConstTag a x b w = subst (KindAndParts src ConstTag a b) (sym w.3) (refl, w.4)
+kind_and_parts src Defined a x b w = subst (KindAndParts src Defined a b) (sym w.2) (refl, w.3)
+kind_and_parts src GenericDefined a x b w = subst (KindAndParts src GenericDefined a b) (sym w.4) (refl, w.5)
+kind_and_parts src Alias a x b w = subst (KindAndParts src Alias a b) (sym w.2) (refl, w.3)
+kind_and_parts src GenericAlias a x b w = subst (KindAndParts src GenericAlias a b) (sym w.4) (refl, w.5)
+kind_and_parts src TypeParameter a x b w = subst (KindAndParts src TypeParameter a b) (sym w.3) (refl, w.4)
+
+of_its_kind : (src : Source) (a : Here) (x : Head) (b : Here) → IsHeadParts src a x b → IsHeadOf src (kind_of_head x) a x b
+of_its_kind src a (whole (var_of pos type)) b w = (pos, type, refl, w)
+of_its_kind src a (whole (function_of pos [] sig)) b w = (pos, sig, refl, w)
+of_its_kind src a (whole (function_of pos (t ∷ ts) sig)) b w = (pos, t, ts, sig, refl, w)
+of_its_kind src a (whole (constant_of pos type value)) b w = absurd w
+of_its_kind src a (whole (defined_of pos tparams underlying methods)) b w = absurd w
+of_its_kind src a (whole (renamed_of pos [] type)) b w = (pos, type, refl, w)
+of_its_kind src a (whole (renamed_of pos (t ∷ ts) type)) b w = (pos, t, ts, type, refl, w)
+of_its_kind src a (whole (type_parameter_of pos implicit constraint)) b w = (pos, implicit, constraint, refl, w)
+of_its_kind src a (of_type pos [] type) b w = (pos, type, refl, w)
+of_its_kind src a (of_type pos (t ∷ ts) type) b w = (pos, t, ts, type, refl, w)
+of_its_kind src a (of_constant pos type at) b w = (pos, type, at, refl, w)
+
+-- ---- without type parameters
+
+var_reads : (src : Source) → Reads (IsBytes src.strings) (var_at src) (IsHeadOf src Var) head_asks
+unfolding var_at
+var_reads src =
+    two_reads (pos_at src) (type_at Any) (IsPos src) IsNumber nothing any_type (λ pos type. whole (var_of pos type)) (IsHeadOf src Var) head_asks (pos_reads src) (type_reads Any) (λ pos type. refl)
+    (λ a pos b type c first second. (pos, type, refl, (b, first, second)))
+    (λ a x b w. record { x = w.0; y = w.1; at_y = w.3.0; first = w.3.1; second = w.3.2; made = w.2 })
+
+func_decl_reads : (src : Source) → Reads (IsBytes src.strings) (func_decl_at src) (IsHeadOf src Func) head_asks
+unfolding func_decl_at
+func_decl_reads src =
+    two_reads (pos_at src) (sig_at src) (IsPos src) (IsSig src) nothing sig_asks (λ pos sig. whole (function_of pos [] sig)) (IsHeadOf src Func) head_asks (pos_reads src) (sig_reads src) (λ pos sig. refl)
+    (λ a pos b sig c first second. (pos, sig, refl, (b, b, first, refl, second)))
+    (λ a x b w. record { x = w.0; y = w.1; at_y = w.3.0; first = w.3.2; second = subst (λ m. IsSig src m w.1 b) (sym w.3.3) w.3.4; made = w.2 })
+
+defined_reads : (src : Source) → Reads (IsBytes src.strings) (defined_at src) (IsHeadOf src Defined) head_asks
+unfolding defined_at
+defined_reads src =
+    two_reads (pos_at src) (type_at Underlying) (IsPos src) IsNumber nothing (λ type. (type, Underlying) ∷ []) (λ pos type. of_type pos [] type) (IsHeadOf src Defined) head_asks
+    (pos_reads src) (type_reads Underlying) (λ pos type. refl)
+    (λ a pos b type c first second. (pos, type, refl, (b, b, first, refl, second)))
+    (λ a x b w. record { x = w.0; y = w.1; at_y = w.3.0; first = w.3.2; second = subst (λ m. IsNumber m w.1 b) (sym w.3.3) w.3.4; made = w.2 })
+
+alias_reads : (src : Source) → Reads (IsBytes src.strings) (alias_at src) (IsHeadOf src Alias) head_asks
+unfolding alias_at
+alias_reads src =
+    two_reads (pos_at src) (type_at Any) (IsPos src) IsNumber nothing any_type (λ pos type. whole (renamed_of pos [] type)) (IsHeadOf src Alias) head_asks (pos_reads src) (type_reads Any) (λ pos type. refl)
+    (λ a pos b type c first second. (pos, type, refl, (b, b, first, refl, second)))
+    (λ a x b w. record { x = w.0; y = w.1; at_y = w.3.0; first = w.3.2; second = subst (λ m. IsNumber m w.1 b) (sym w.3.3) w.3.4; made = w.2 })
+
+-- ---- with type parameters
+
+abbrev parameter_type : ℕ → List Ask
+parameter_type type = (type, Parameter) ∷ []
+
+abbrev AreSome : Here → List ℕ → Here → Type 0
+AreSome = IsSome (type_at Parameter) IsNumber parameter_type
+
+tparams_reads : {Given : Type 0} → Reads Given tparams_at AreSome (flat_map parameter_type)
+tparams_reads = some_reads (type_at Parameter) IsNumber parameter_type (type_reads Parameter)
+
+parameters_ask : (ts : List ℕ) (others : List Ask) → flat_map parameter_type ts ++ others ≡ asking Parameter ts ++ others
+parameters_ask ts others = ap (λ (asks : List Ask). asks ++ others) (flat_map_single (λ type. (type, Parameter)) ts)
+
+generic_func_reads : (src : Source) → Reads (IsBytes src.strings) (generic_func_at src) (IsHeadOf src GenericFunc) head_asks
+unfolding generic_func_at
+generic_func_reads src =
+    three_reads (pos_at src) tparams_at (λ pos b ts. sig_at src) (IsPos src) AreSome (λ pos ts. IsSig src) nothing (flat_map parameter_type) (λ pos ts. sig_asks) (λ pos ts sig. whole (function_of pos ts sig))
+    (IsHeadOf src GenericFunc) head_asks (pos_reads src) tparams_reads (λ pos b ts. sig_reads src) (λ pos ts sig. parameters_ask ts (sig_asks sig))
+    join
+    (λ a x b w. record { x = w.0; y = w.1 ∷ w.2; z = w.3; at_y = w.5.0; at_z = w.5.1; first = w.5.2; second = (w.5.3, omega arith); third = w.5.4; made = w.4 })
+  where
+    join : (a : Here) (pos : Pos) (b : Here) (ts : List ℕ) (c : Here) (sig : Sig) (d : Here) → IsPos src a pos b → AreSome b ts c → IsSig src c sig d → IsHeadOf src GenericFunc a (whole (function_of pos ts sig)) d
+    join a pos b [] c sig d first second third = absurd (omega (arith, second.1))
+    join a pos b (t ∷ ts) c sig d first second third = (pos, t, ts, sig, refl, (b, c, first, second.0, third))
+
+generic_defined_reads : (src : Source) → Reads (IsBytes src.strings) (generic_defined_at src) (IsHeadOf src GenericDefined) head_asks
+unfolding generic_defined_at
+generic_defined_reads src =
+    three_reads (pos_at src) tparams_at (λ pos b ts. type_at Underlying) (IsPos src) AreSome (λ pos ts. IsNumber) nothing (flat_map parameter_type) (λ pos ts type. (type, Underlying) ∷ []) (λ pos ts type. of_type pos ts type)
+    (IsHeadOf src GenericDefined) head_asks (pos_reads src) tparams_reads (λ pos b ts. type_reads Underlying) (λ pos ts type. parameters_ask ts ((type, Underlying) ∷ []))
+    join
+    (λ a x b w. record { x = w.0; y = w.1 ∷ w.2; z = w.3; at_y = w.5.0; at_z = w.5.1; first = w.5.2; second = (w.5.3, omega arith); third = w.5.4; made = w.4 })
+  where
+    join : (a : Here) (pos : Pos) (b : Here) (ts : List ℕ) (c : Here) (type : ℕ) (d : Here) → IsPos src a pos b → AreSome b ts c → IsNumber c type d → IsHeadOf src GenericDefined a (of_type pos ts type) d
+    join a pos b [] c type d first second third = absurd (omega (arith, second.1))
+    join a pos b (t ∷ ts) c type d first second third = (pos, t, ts, type, refl, (b, c, first, second.0, third))
+
+generic_alias_reads : (src : Source) → Reads (IsBytes src.strings) (generic_alias_at src) (IsHeadOf src GenericAlias) head_asks
+unfolding generic_alias_at
+generic_alias_reads src =
+    three_reads_where (pos_at src) tparams_at (λ pos b ts. type_at NoParameter) (IsPos src) AreSome (λ pos ts. IsNumber) nothing (flat_map parameter_type) (λ pos ts type. (type, NoParameter) ∷ [])
+    (λ pos ts type. whole (renamed_of pos ts type)) (IsHeadOf src GenericAlias) head_asks (pos_reads src) tparams_reads (λ pos b ts. type_reads NoParameter) same
+    join
+    (λ a x b w. record { x = w.0; y = w.1 ∷ w.2; z = w.3; at_y = w.5.0; at_z = w.5.1; first = w.5.2; second = (w.5.3, omega arith); third = w.5.4; made = w.4 })
+  where
+    same : (pos : Pos) (b c : Here) (ts : List ℕ) (type : ℕ) → AreSome b ts c → flat_map parameter_type ts ++ (type, NoParameter) ∷ [] ≡ head_asks (whole (renamed_of pos ts type))
+    same pos b c [] type some = absurd (omega (arith, some.1))
+    same pos b c (t ∷ ts) type some = parameters_ask (t ∷ ts) ((type, NoParameter) ∷ [])
+
+    join : (a : Here) (pos : Pos) (b : Here) (ts : List ℕ) (c : Here) (type : ℕ) (d : Here) → IsPos src a pos b → AreSome b ts c → IsNumber c type d → IsHeadOf src GenericAlias a (whole (renamed_of pos ts type)) d
+    join a pos b [] c type d first second third = absurd (omega (arith, second.1))
+    join a pos b (t ∷ ts) c type d first second third = (pos, t, ts, type, refl, (b, c, first, second.0, third))
+
+-- ---- a type parameter
+
+unplaced_constraint : (implicit : Bool) (at : ℕ) → unplaced (constraint_demand implicit at) ≡ constraint_demand implicit 0
+unplaced_constraint true at = refl
+unplaced_constraint false at = refl
+
+constraint_reads : {Given : Type 0} (implicit : Bool) (at : ℕ) → Reads Given (type_at (constraint_demand implicit at)) IsNumber (λ type. (type, constraint_demand implicit 0) ∷ [])
+constraint_reads implicit at =
+    ask_reads (type_at (constraint_demand implicit at)) IsNumber (λ type. (type, unplaced (constraint_demand implicit at)) ∷ []) (λ type. (type, constraint_demand implicit 0) ∷ []) (type_reads (constraint_demand implicit at))
+    (λ type. ap (λ (asked : Demand). (type, asked) ∷ []) (unplaced_constraint implicit at))
+
+parameter_reads : (src : Source) → Reads (IsBytes src.strings) (parameter_at src) (IsHeadOf src TypeParameter) head_asks
+unfolding parameter_at
+parameter_reads src =
+    three_reads (pos_at src) truth_at (λ pos b implicit. type_at (constraint_demand implicit (place b.spot))) (IsPos src) IsTruth (λ pos implicit. IsNumber) nothing nothing (λ pos implicit type. (type, constraint_demand implicit 0) ∷ [])
+    (λ pos implicit type. whole (type_parameter_of pos implicit type)) (IsHeadOf src TypeParameter) head_asks (pos_reads src) truth_reads (λ pos b implicit. constraint_reads implicit (place b.spot)) (λ pos implicit type. refl)
+    (λ a pos b implicit c type d first second third. (pos, implicit, type, refl, (b, c, first, second, third)))
+    (λ a x b w. record { x = w.0; y = w.1; z = w.2; at_y = w.4.0; at_z = w.4.1; first = w.4.2; second = w.4.3; third = w.4.4; made = w.3 })
+
+-- ---- a constant, whose head has the place of its typeOff
+
+constant_answers : (src : Source) → IsBytes src.strings → (a : Ahead) → Fits a → Answered (IsHeadOf src ConstTag) head_asks a (constant_at src a)
+unfolding constant_at
+constant_answers src bytes a fits =
+    then_answers (IsPos src) nothing (IsHeadOf src ConstTag) head_asks a a [] (pos_at src a) (λ pos. type_at Any pos.1 >>= λ type. Ok (of_constant pos.0 type.0 (place (pos.1).spot), type.1)) (went_nowhere a fits)
+    ((pos_reads src).takes bytes a fits)
+    (λ pos b first.
+      then_answers IsNumber any_type (IsHeadOf src ConstTag) head_asks a b [] (type_at Any b) (λ type. Ok (of_constant pos type.0 (place b.spot), type.1)) first.went ((type_reads {Given = Unit {0}} Any).takes tt b first.went.fits)
+      (λ type c second. record { stands = λ tail. (pos, type, place b.spot, refl, (seen_from b tail, first.stands tail, second.stands tail)); went = went_on a b c [] (any_type type) first.went second.went }))
+
+-- Up to that place, the head that stands there is read again.
+abbrev pub HeadAgain : Reader Head → Ahead → Head → List ℕ → Here → Type 0
+HeadAgain p a x tail after = (y : Head) × (unplaced_head y ≡ unplaced_head x) × Again p a y tail after
+
+constant_again : (src : Source) (a : Ahead) (tail : List ℕ) (x : Head) (after : Here) → IsHeadOf src ConstTag (seen_from a tail) x after → length tail ≤ length after.left → HeadAgain (constant_at src) a x tail after
+unfolding constant_at
+constant_again src a tail x after w le =
+    let first = (pos_reads src).again a tail w.0 w.4.0 w.4.1 (omega (arith, le, (number_reads {Given = Unit {0}}).shrinks w.4.0 w.1 after w.4.2)) in
+    let second = (type_reads {Given = Unit {0}} Any).again first.0 tail w.1 after (subst (λ m. IsNumber m w.1 after) first.2 w.4.2) le in
+    (of_constant w.0 w.1 (place first.0.spot), ap unplaced_head (sym w.3), (second.0, rw (first.1, second.1) refl, second.2))
+
+constant_shrinks : (src : Source) (a : Here) (x : Head) (b : Here) → IsHeadOf src ConstTag a x b → length b.left ≤ length a.left
+constant_shrinks src a x b w = omega (arith, (pos_reads src).shrinks a w.0 w.4.0 w.4.1, (number_reads {Given = Unit {0}}).shrinks w.4.0 w.1 b w.4.2)
