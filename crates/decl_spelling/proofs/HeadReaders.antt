@@ -200,3 +200,118 @@ constant_again src a tail x after w le =
 
 constant_shrinks : (src : Source) (a : Here) (x : Head) (b : Here) → IsHeadOf src ConstTag a x b → length b.left ≤ length a.left
 constant_shrinks src a x b w = omega (arith, (pos_reads src).shrinks a w.0 w.4.0 w.4.1, (number_reads {Given = Unit {0}}).shrinks w.4.0 w.1 b w.4.2)
+
+-- ---- each kind
+
+head_by_answers : (src : Source) → IsBytes src.strings → (tag : DeclTag) (a : Ahead) → Fits a → Answered (IsHeadOf src tag) head_asks a (head_by src tag a)
+head_by_answers src bytes Var a fits = (var_reads src).takes bytes a fits
+head_by_answers src bytes Func a fits = (func_decl_reads src).takes bytes a fits
+head_by_answers src bytes GenericFunc a fits = (generic_func_reads src).takes bytes a fits
+head_by_answers src bytes ConstTag a fits = constant_answers src bytes a fits
+head_by_answers src bytes Defined a fits = (defined_reads src).takes bytes a fits
+head_by_answers src bytes GenericDefined a fits = (generic_defined_reads src).takes bytes a fits
+head_by_answers src bytes Alias a fits = (alias_reads src).takes bytes a fits
+head_by_answers src bytes GenericAlias a fits = (generic_alias_reads src).takes bytes a fits
+head_by_answers src bytes TypeParameter a fits = (parameter_reads src).takes bytes a fits
+
+head_by_again : (src : Source) (tag : DeclTag) (a : Ahead) (tail : List ℕ) (x : Head) (after : Here) → IsHeadOf src tag (seen_from a tail) x after → length tail ≤ length after.left → HeadAgain (head_by src tag) a x tail after
+head_by_again src Var a tail x after w le = (x, refl, (var_reads src).again a tail x after w le)
+head_by_again src Func a tail x after w le = (x, refl, (func_decl_reads src).again a tail x after w le)
+head_by_again src GenericFunc a tail x after w le = (x, refl, (generic_func_reads src).again a tail x after w le)
+head_by_again src ConstTag a tail x after w le = constant_again src a tail x after w le
+head_by_again src Defined a tail x after w le = (x, refl, (defined_reads src).again a tail x after w le)
+head_by_again src GenericDefined a tail x after w le = (x, refl, (generic_defined_reads src).again a tail x after w le)
+head_by_again src Alias a tail x after w le = (x, refl, (alias_reads src).again a tail x after w le)
+head_by_again src GenericAlias a tail x after w le = (x, refl, (generic_alias_reads src).again a tail x after w le)
+head_by_again src TypeParameter a tail x after w le = (x, refl, (parameter_reads src).again a tail x after w le)
+
+head_by_shrinks : (src : Source) (tag : DeclTag) (a : Here) (x : Head) (b : Here) → IsHeadOf src tag a x b → length b.left ≤ length a.left
+head_by_shrinks src Var a x b w = (var_reads src).shrinks a x b w
+head_by_shrinks src Func a x b w = (func_decl_reads src).shrinks a x b w
+head_by_shrinks src GenericFunc a x b w = (generic_func_reads src).shrinks a x b w
+head_by_shrinks src ConstTag a x b w = constant_shrinks src a x b w
+head_by_shrinks src Defined a x b w = (defined_reads src).shrinks a x b w
+head_by_shrinks src GenericDefined a x b w = (generic_defined_reads src).shrinks a x b w
+head_by_shrinks src Alias a x b w = (alias_reads src).shrinks a x b w
+head_by_shrinks src GenericAlias a x b w = (generic_alias_reads src).shrinks a x b w
+head_by_shrinks src TypeParameter a x b w = (parameter_reads src).shrinks a x b w
+
+-- ---- the whole head
+
+abbrev OneByte : List ℕ → ℕ → Type 0
+OneByte bytes b = bytes ≡ b ∷ []
+
+abbrev IsByte : Here → ℕ → Here → Type 0
+IsByte a n b = Begins OneByte a.left n b.left × (b.before ≡ a.before)
+
+byte_reads : {Given : Type 0} → Reads Given (λ a. plain a (byte_at a.spot)) IsByte nothing
+byte_reads =
+    plain_reads byte_at OneByte
+    (λ given s b after fits e. let t = byte_at_takes s b after fits e in record { stands = (b ∷ [], refl, t.stands); same_end = t.same_end; fits = t.fits })
+    (λ s b front rest spelled e. byte_at_again s b rest (e ∙ ap (λ (bytes : List ℕ). bytes ++ rest) spelled))
+
+head_joins : (src : Source) (tag : DeclTag) (n : ℕ) (a : Here) (b : Here) (x : Head) (c : Here) → IsByte a n b → decl_tag_of src.version n ≡ Some tag → IsHeadOf src tag b x c → IsHead src a x c
+head_joins src tag n a b x c byte known w =
+    let of_kind = kind_and_parts src tag b x c w in
+    let its : n ≡ decl_tag_code (kind_of_head x) = sym (decl_tag_of_takes src.version n tag known) ∙ ap decl_tag_code (sym of_kind.0) in
+    record {
+      rest = b.left;
+      kind = byte.0.2 ∙ ap (λ (bytes : List ℕ). bytes ++ b.left) byte.0.1 ∙ ap (λ (n : ℕ). n ∷ b.left) its;
+      known = subst (λ n. decl_tag_of src.version n ≡ Some tag) its known ∙ ap (λ (t : DeclTag). Some t) (sym of_kind.0);
+      parts = subst (λ p. IsHeadParts src (record { left = b.left; before = p }) x c) byte.1 of_kind.1;
+    }
+
+pub head_answers : (src : Source) → IsBytes src.strings → (a : Ahead) → Fits a → Answered (IsHead src) head_asks a (head_at src a)
+unfolding head_at
+head_answers src bytes a fits =
+    then_answers IsByte nothing (IsHead src) head_asks a a [] (plain a (byte_at a.spot)) (λ byte. or_stop a (faults.Tag (place a.spot) byte.0) (decl_tag_of src.version byte.0) >>= λ tag. head_by src tag byte.1) (went_nowhere a fits)
+    ((byte_reads {Given = Unit {0}}).takes tt a fits)
+    (λ n b first.
+      judged_answers (IsHead src) head_asks a (faults.Tag (place a.spot) n) (decl_tag_of src.version n) (λ tag. head_by src tag b)
+      (λ tag known.
+        onward_answers (IsHeadOf src tag) head_asks (IsHead src) a b (head_by src tag b) first.went (head_by_answers src bytes tag b first.went.fits)
+        (λ x c second tail. head_joins src tag n (seen_from a tail) (seen_from b tail) x (seen_from c tail) (first.stands tail) known (second.stands tail))))
+
+pub head_again : (src : Source) (a : Ahead) (tail : List ℕ) (x : Head) (after : Here) → IsHead src (seen_from a tail) x after → length tail ≤ length after.left → HeadAgain (head_at src) a x tail after
+unfolding head_at
+head_again src a tail x after w le =
+    let tag = kind_of_head x in
+    let next : Here = record { left = w.rest; before = a.before.place } in
+    let parts : IsHeadOf src tag next x after = of_its_kind src next x after w.parts in
+    let first = (byte_reads {Given = Unit {0}}).again a tail (decl_tag_code tag) next ((decl_tag_code tag ∷ [], refl, w.kind), refl) (omega (arith, le, head_by_shrinks src tag next x after parts)) in
+    let second = head_by_again src tag first.0 tail x after (subst (λ m. IsHeadOf src tag m x after) first.2 parts) le in
+    (second.0, second.1, (second.2.0, rw (first.1, w.known) second.2.1, second.2.2))
+
+pub head_shrinks : (src : Source) (a : Here) (x : Head) (b : Here) → IsHead src a x b → length b.left ≤ length a.left
+head_shrinks src a x b w =
+    let next : Here = record { left = w.rest; before = a.before } in
+    omega (arith, ap (λ (bytes : List ℕ). length bytes) w.kind, head_by_shrinks src (kind_of_head x) next x b (of_its_kind src next x b w.parts))
+
+-- ---- methods
+
+abbrev make_receiver : Pos → Text → Param → Sig → Receiver
+make_receiver pos name recv sig = record { pos = pos; name = name; recv = recv; sig = sig }
+
+abbrev pub types_of_receiver : Receiver → List ℕ
+types_of_receiver x = receiver_types x
+
+abbrev receiver_asks : Receiver → List Ask
+receiver_asks x = asking Any (types_of_receiver x)
+
+receiver_reads : (src : Source) → Reads (IsBytes src.strings) (receiver_at src) (IsReceiver src) receiver_asks
+unfolding receiver_at
+receiver_reads src =
+    four_reads (pos_at src) (text_at src) (param_at src) (sig_at src) (IsPos src) (IsText src) (IsParam src) (IsSig src) nothing nothing param_asks sig_asks make_receiver (IsReceiver src) receiver_asks
+    (pos_reads src) (text_reads src) (param_reads src) (sig_reads src) (λ pos name recv sig. refl)
+    (λ a pos b name c recv d sig e first second third fourth. record { at_name = b; at_recv = c; at_sig = d; pos = first; name = second; recv = third; sig = fourth })
+    (λ a x b w. record {
+      x = x.pos; y = x.name; z = x.recv; v = x.sig;
+      at_y = w.at_name; at_z = w.at_recv; at_v = w.at_sig;
+      first = w.pos; second = w.name; third = w.recv; fourth = w.sig;
+      made = refl;
+    })
+
+pub receivers_reads : (src : Source) → Reads (IsBytes src.strings) (list_at (receiver_at src)) (IsList (IsReceiver src)) (λ xs. asking Any (flat_map types_of_receiver xs))
+receivers_reads src =
+    ask_reads (list_at (receiver_at src)) (IsList (IsReceiver src)) (flat_map receiver_asks) (λ xs. asking Any (flat_map types_of_receiver xs)) (list_reads (receiver_at src) (IsReceiver src) receiver_asks (receiver_reads src))
+    (asking-flat Any types_of_receiver)

@@ -8,3 +8,4 @@ pub mod CodeLaws
 pub mod FlatReaders
 pub mod DescriptorReaders
 pub mod HeadReaders
+pub mod ValueReaders
