@@ -9,3 +9,4 @@ pub mod FlatReaders
 pub mod DescriptorReaders
 pub mod HeadReaders
 pub mod ValueReaders
+pub mod FlatLaws
