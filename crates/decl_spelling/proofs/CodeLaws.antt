@@ -8,9 +8,9 @@ use Rattle.code_tables.specs.declared.descriptors.TypeTag.{TypeTag}
 use Rattle.code_tables.specs.declared.descriptors.TypeTag.TheVariants as t
 use Rattle.code_tables.specs.declared.declarations.DeclTag.{DeclTag}
 use Rattle.code_tables.specs.declared.declarations.DeclTag.TheVariants as d
-use Rattle.code_tables.specs.Basic.{basic_code, basic_values}
-use Rattle.code_tables.specs.TypeTag.{type_tag_code, type_tag_values}
-use Rattle.code_tables.specs.DeclTag.{decl_tag_code, decl_tag_values}
+use Rattle.code_tables.specs.Basic.{basic_code, basic_number, basic_values}
+use Rattle.code_tables.specs.TypeTag.{type_tag_code, type_tag_number, type_tag_values}
+use Rattle.code_tables.specs.DeclTag.{decl_tag_code, decl_tag_number, decl_tag_values}
 use Rattle.wire_bytes.proofs.Steps.{chosen}
 use Rattle.type_terms.specs.declared.literals.Dir.{Dir}
 use Rattle.type_terms.specs.declared.literals.Dir.TheVariants.{Receive, Send, Both}
@@ -31,10 +31,14 @@ module _ {T : Type 0} (code : T → ℕ) where
         | inr later ↦ coded_takes values n v later.1
       ]
 
+  -- and back, where each value is found by its code
+  pub coded_gives : (values : List T) → ((v : T) → coded code values (code v) ≡ Some v) → (n : ℕ) (v : T) → code v ≡ n → coded code values n ≡ Some v
+  coded_gives values found n v e = subst (λ m. coded code values m ≡ Some v) e (found v)
+
   -- what a table answers at a number, where each value is found by its code
   pub is_coded : (values : List T) → ((v : T) → coded code values (code v) ≡ Some v) → (n : ℕ) (result : Option T) → IfSome result (λ v. code v ≡ n) → IfNone result ((v : T) → code v ≢ n)
       → result ≡ coded code values n
-  is_coded values found n (Some v) has missing = sym (subst (λ m. coded code values m ≡ Some v) has (found v))
+  is_coded values found n (Some v) has missing = sym (coded_gives values found n v has)
   is_coded values found n None has missing = sym (by (coded code values n) refl)
     where
       by : (o : Option T) → coded code values n ≡ o → o ≡ None
@@ -104,6 +108,20 @@ decl_tag_again d.GenericDefined = refl
 decl_tag_again d.Alias = refl
 decl_tag_again d.GenericAlias = refl
 decl_tag_again d.TypeParameter = refl
+
+-- ---- what the tables of codes answer
+
+pub basics_answer : (codes : List ℕ) → ((v : Basic) → slice_index codes (basic_number v) ≡ basic_code v) → (n : ℕ) (result : Option Basic)
+    → IfSome result (λ v. slice_index codes (basic_number v) ≡ n) → IfNone result ((v : Basic) → slice_index codes (basic_number v) ≢ n) → result ≡ coded basic_code basic_values n
+basics_answer codes its n result = table_answers basic_code basic_values basic_again basic_number codes its n result
+
+pub type_tags_answer : (codes : List ℕ) → ((v : TypeTag) → slice_index codes (type_tag_number v) ≡ type_tag_code v) → (n : ℕ) (result : Option TypeTag)
+    → IfSome result (λ v. slice_index codes (type_tag_number v) ≡ n) → IfNone result ((v : TypeTag) → slice_index codes (type_tag_number v) ≢ n) → result ≡ coded type_tag_code type_tag_values n
+type_tags_answer codes its n result = table_answers type_tag_code type_tag_values type_tag_again type_tag_number codes its n result
+
+pub decl_tags_answer : (codes : List ℕ) → ((v : DeclTag) → slice_index codes (decl_tag_number v) ≡ decl_tag_code v) → (n : ℕ) (result : Option DeclTag)
+    → IfSome result (λ v. slice_index codes (decl_tag_number v) ≡ n) → IfNone result ((v : DeclTag) → slice_index codes (decl_tag_number v) ≢ n) → result ≡ coded decl_tag_code decl_tag_values n
+decl_tags_answer codes its n result = table_answers decl_tag_code decl_tag_values decl_tag_again decl_tag_number codes its n result
 
 -- ---- in a version
 

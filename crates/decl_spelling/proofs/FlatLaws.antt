@@ -1,6 +1,6 @@
 -- The laws of the readers of a block's own bytes, each for a descriptor, the head of a declaration, a list of methods and the value
 -- of a constant.
-use Rattle.std.proofs.Common.{◌≡◌, ℕ, ◌^◌, ◌<◌, ◌≤◌, List, [], ◌∷◌, ◌++◌, length, map, Ok, Err, refl, sym, ap, ◌∙◌, arith}
+use Rattle.std.proofs.Common.{◌≡◌, ℕ, ◌+◌, ◌≤◌, List, [], ◌∷◌, ◌++◌, length, map, Ok, Err, refl, ap, ◌∙◌, arith, length-append}
 use Rattle.std.specs.List.{flat_map}
 use Rattle.std.proofs.lemmas.List.{map-append}
 use Rattle.code_tables.specs.declared.constants.Const.{Const}
@@ -88,6 +88,10 @@ module _ (src : Source) where
 
   pub receivers_shrinks : (a : Here) (xs : List Receiver) (b : Here) → IsList (IsReceiver src) a xs b → length b.left ≤ length a.left
   receivers_shrinks = (receivers_reads src).shrinks
+
+-- Each mention took a byte.
+pub went_frugally : (a : Ahead) (asks : List Ask) (b : Ahead) → Went a asks b → length b.mentions + length b.spot.left ≤ length a.mentions + length a.spot.left
+went_frugally a asks b went = omega (arith, went.frugal, ap (λ (ms : List Mention). length ms) went.mentions, length-append a.mentions went.added)
 
 -- ---- the typeOffs of what is asked
 
