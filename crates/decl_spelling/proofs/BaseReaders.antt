@@ -1,29 +1,28 @@
 -- The readers of numbers, flags, texts, paths, positions and types.
-use Rattle.std.proofs.Common.{◌≡◌, ℕ, zero, suc, ◌+◌, ◌^◌, ◌<◌, ◌≤◌, Bool, List, [], ◌∷◌, ◌++◌, length, map, Option, Some, None, Result, Ok, Err, refl, sym, ap, subst, ◌∙◌, append_assoc, arith, length-append}
+use Rattle.std.proofs.Common.{◌≡◌, ℕ, ◌<◌, ◌≤◌, List, [], ◌∷◌, ◌++◌, length, Option, Some, None, Result, Ok, Err, refl, sym, ap, subst, ◌∙◌, append_assoc, arith, length-append}
 use Rattle.std.proofs.lemmas.List.{append-nil}
 use Rattle.code_tables.specs.declared.positions.Pos.{Pos}
 use Rattle.wire_bytes.specs.declared.fault.ByteFault.{ByteFault}
 use Rattle.wire_bytes.specs.declared.fault.ByteFault.TheVariants as faults
-use Rattle.wire_bytes.specs.Reading.{Spot, place, onward, ◌>>=◌, byte_at}
+use Rattle.wire_bytes.specs.Reading.{Spot, place, onward, ◌>>=◌}
 use Rattle.wire_bytes.specs.Begins.{Begins}
-use Rattle.wire_bytes.specs.Uvarint.{Uvarint, BeginsWith, uvarint_at}
-use Rattle.wire_bytes.specs.Varint.{Varint, Flag, varint_at, flag_at}
+use Rattle.wire_bytes.specs.Uvarint.{Uvarint, uvarint_at}
+use Rattle.wire_bytes.specs.Varint.{Flag, flag_at}
 use Rattle.wire_bytes.specs.Text.{Text, text_in}
 use Rattle.wire_bytes.proofs.Spellings.{IsBytes}
 use Rattle.wire_bytes.proofs.Texts.{text_takes, text_again}
 use Rattle.wire_bytes.proofs.Many.{Takes}
-use Rattle.wire_bytes.proofs.Cursors.{uvarint_at_takes, uvarint_at_again, byte_at_takes, byte_at_again}
+use Rattle.wire_bytes.proofs.Cursors.{uvarint_at_takes, uvarint_at_again}
 use Rattle.position_codec.specs.Place.{Named, pos_of, moved_on}
-use Rattle.position_codec.specs.Position.{Position, position_at}
-use Rattle.position_codec.proofs.Readings.{varint_at_again, position_again}
-use Rattle.decl_spelling.specs.declared.mention.Mention.{Mention}
+use Rattle.position_codec.specs.Position.{position_at}
+use Rattle.position_codec.proofs.Readings.{position_again}
 use Rattle.decl_spelling.specs.declared.mention.Demand.{Demand}
 use Rattle.decl_spelling.specs.Source.{Source, path_of}
-use Rattle.decl_spelling.specs.Reading.{Ahead, Reader, Stopped, onto, plain, placed, number_at, truth_at, text_at, path_by, path_at, pos_at, type_at}
+use Rattle.decl_spelling.specs.Reading.{Ahead, onto, plain, placed, number_at, truth_at, text_at, path_by, path_at, pos_at, type_at}
 use Rattle.decl_spelling.specs.Grammar.{Here, IsNumber, IsTruth, IsText, IsPath, IsPos}
-use Rattle.decl_spelling.proofs.Took.{Ask, ask_of, unplaced, seen_from, Fits, Went, Took, Few, Again}
+use Rattle.decl_spelling.proofs.Took.{unplaced, Fits}
 use Rattle.decl_spelling.proofs.Readers.{Answered, Reads, nothing, give, give_reads, judged_reads}
-use Rattle.decl_spelling.proofs.Taken.{flag_takes, flag_again, varint_takes, position_takes}
+use Rattle.decl_spelling.proofs.Taken.{flag_takes, flag_again, position_takes}
 
 -- what stands in front of a window's bytes and of what follows the window, if it doesn't take from what follows
 split_tail : (front after left tail : List ℕ) → left ++ tail ≡ front ++ after → length tail ≤ length after → (rest : List ℕ) × (after ≡ rest ++ tail) × (left ≡ front ++ rest)
@@ -89,7 +88,7 @@ unfolding text_at
 text_reads src = judged_reads number_at (λ a offset. faults.Range (place a.spot) offset) (text_in src.strings) give IsNumber (λ text a x b. (x ≡ text) × (b ≡ a)) nothing (IsText src)
     number_reads (give_reads (IsBytes src.strings))
     (λ bytes a offset b text x c number there stays.
-      (offset, subst (IsNumber a offset) (sym stays.1) number, subst (Text src.strings offset) (sym stays.0) (text_takes src.strings offset text bytes there)))
+    (offset, subst (IsNumber a offset) (sym stays.1) number, subst (Text src.strings offset) (sym stays.0) (text_takes src.strings offset text bytes there)))
     (λ a text b stands. record { x = stands.0; v = text; next = b; first = stands.1; judged = text_again src.strings stands.0 text stands.2; second = (refl, refl) })
 
 path_by_takes : (src : Source) (text : Option (List ℕ)) (path : List ℕ) → path_by src text ≡ Some path → (t : List ℕ) × (text ≡ Some t) × (path_of src t ≡ Some path)
@@ -101,10 +100,10 @@ unfolding path_at
 path_reads src = judged_reads number_at (λ a offset. faults.Range (place a.spot) offset) (λ offset. path_by src (text_in src.strings offset)) give IsNumber (λ path a x b. (x ≡ path) × (b ≡ a)) nothing (IsPath src)
     number_reads (give_reads (IsBytes src.strings))
     (λ bytes a offset b path x c number there stays.
-      let text = path_by_takes src (text_in src.strings offset) path there in
-      (text.0, (offset, subst (IsNumber a offset) (sym stays.1) number, text_takes src.strings offset text.0 bytes text.1), text.2 ∙ ap (λ (p : List ℕ). Some p) (sym stays.0)))
+    let text = path_by_takes src (text_in src.strings offset) path there in
+    (text.0, (offset, subst (IsNumber a offset) (sym stays.1) number, text_takes src.strings offset text.0 bytes text.1), text.2 ∙ ap (λ (p : List ℕ). Some p) (sym stays.0)))
     (λ a path b stands.
-      record { x = stands.1.0; v = path; next = b; first = stands.1.1; judged = ap (path_by src) (text_again src.strings stands.1.0 stands.0 stands.1.2) ∙ stands.2; second = (refl, refl) })
+    record { x = stands.1.0; v = path; next = b; first = stands.1.1; judged = ap (path_by src) (text_again src.strings stands.1.0 stands.0 stands.1.2) ∙ stands.2; second = (refl, refl) })
 
 -- ---- positions
 
@@ -153,8 +152,6 @@ type_reads asked = record {
   shrinks = (number_reads {Given = Unit {0}}).shrinks;
 }
   where
-
-
     by : (a : Ahead) → Fits a → (r : Result (ℕ × Spot) ByteFault) → uvarint_at a.spot ≡ r → Answered IsNumber (λ n. (n, unplaced asked) ∷ []) a (plain a r >>= λ number. Ok (number.0, record { spot = (number.1).spot; before = a.before; mentions = a.mentions ++ record { at = place a.spot; value = number.0; asked = asked } ∷ [] }))
     by a fits (Ok y) e =
         let t = uvarint_at_takes a.spot y.0 y.1 fits.bytes e in

@@ -1,5 +1,5 @@
 -- A number stands for the value whose code it is.
-use Rattle.std.proofs.Common.{◌≡◌, ◌≢◌, ℕ, Bool, true, false, List, [], ◌∷◌, ◌&&◌, cond, Option, Some, None, refl, sym, ap, subst, ◌∙◌, inl, inr, arith}
+use Rattle.std.proofs.Common.{◌≡◌, ◌≢◌, ℕ, Bool, true, false, List, [], ◌∷◌, ◌&&◌, cond, Option, Some, None, refl, sym, ap, subst, ◌∙◌, inl, inr}
 use Rattle.std.specs.Prelude.{◌==◌, nat_le, IfSome, IfNone, slice_index}
 use Rattle.std.proofs.lemmas.Bool.{eqb-true}
 use Rattle.code_tables.specs.declared.predeclared.Basic.{Basic}

@@ -1,5 +1,5 @@
 -- The readers of descriptors, a case for each kind.
-use Rattle.std.proofs.Common.{◌≡◌, ℕ, ◌^◌, ◌<◌, Bool, true, false, List, [], ◌∷◌, ◌++◌, length, map, Option, Some, None, Ok, Err, refl, sym, ap, subst, ◌∙◌}
+use Rattle.std.proofs.Common.{◌≡◌, ℕ, ◌^◌, List, [], ◌∷◌, ◌++◌, Some, Ok, refl, sym, ap, subst, ◌∙◌}
 use Rattle.std.specs.Prelude.{nat_lt}
 use Rattle.std.specs.List.{flat_map}
 use Rattle.std.proofs.lemmas.Bool.{ltb-true, lt-ltb}
@@ -11,16 +11,16 @@ use Rattle.wire_bytes.specs.Reading.{place, ◌>>=◌}
 use Rattle.wire_bytes.proofs.Spellings.{IsBytes}
 use Rattle.type_terms.specs.Trees.{Text}
 use Rattle.type_terms.specs.declared.literals.Dir.{Dir}
-use Rattle.type_terms.specs.Shapes.{TermOf, predeclared_of, named_of, parameter_of, alias_of, pointer_of, slice_of, array_of, chan_of, map_of, func_of, struct_of, interface_of, instance_of, union_of, sig_types}
+use Rattle.type_terms.specs.Shapes.{TermOf, named_of, parameter_of, alias_of, pointer_of, slice_of, array_of, chan_of, map_of, func_of, struct_of, interface_of, instance_of, union_of}
 use Rattle.decl_spelling.specs.declared.mention.Demand.TheVariants.{Any, Base}
 use Rattle.decl_spelling.specs.Source.{Source}
 use Rattle.decl_spelling.specs.Codes.{type_tag_of, dir_of}
-use Rattle.decl_spelling.specs.Reading.{Ahead, Reader, number_at, text_at, path_at, pos_at, type_at, list_at, some_at}
+use Rattle.decl_spelling.specs.Reading.{number_at, text_at, path_at, pos_at, type_at, list_at, some_at}
 use Rattle.decl_spelling.specs.Descriptors.{Flat, Sig, sig_at, field_at, method_at, embedded_at, term_at, qualified_at, element_at, array_at, chan_at, map_at, func_at, struct_at, interface_at, instance_at, union_at, flat_by, flat_at}
 use Rattle.decl_spelling.specs.Grammar.{Here, IsNumber, IsText, IsPath, IsPos, IsList, IsSig, IsField, IsMethod, IsEmbedded, IsTerm, IsQualified, dir_number, IsParts, tag_of, IsDescriptor}
-use Rattle.decl_spelling.proofs.Took.{Ask, asking, shape_asks}
-use Rattle.decl_spelling.proofs.Readers.{Reads, nothing, One, one_reads, Two, two_reads, Judged, judged_reads, tested_reads}
-use Rattle.decl_spelling.proofs.ReaderSteps.{Three, three_reads}
+use Rattle.decl_spelling.proofs.Took.{Ask, shape_asks}
+use Rattle.decl_spelling.proofs.Readers.{Reads, nothing, one_reads, two_reads, judged_reads, tested_reads}
+use Rattle.decl_spelling.proofs.ReaderSteps.{three_reads}
 use Rattle.decl_spelling.proofs.BaseReaders.{number_reads, text_reads, path_reads, pos_reads, type_reads}
 use Rattle.decl_spelling.proofs.ListReaders.{asking-append, list_reads, IsSome, some_reads}
 use Rattle.decl_spelling.proofs.CodeLaws.{type_tag_of_takes, dir_takes, dir_again}
@@ -205,6 +205,6 @@ unfolding flat_at
 flat_reads src =
     judged_reads number_at (λ a n. faults.Tag (place a.spot) n) (type_tag_of src.version) (flat_by src) IsNumber (IsOfTag src) shape_asks (IsDescriptor src) number_reads (flat_by_reads src)
     (λ given a n b tag x c number known w.
-      let its : n ≡ type_tag_code tag = sym (type_tag_of_takes src.version n tag known) in
-      record { kind = tag; its_kind = w.0; at_parts = b; number = subst (λ n. IsNumber a n b) its number; known = subst (λ n. type_tag_of src.version n ≡ Some tag) its known; parts = w.1 })
+    let its : n ≡ type_tag_code tag = sym (type_tag_of_takes src.version n tag known) in
+    record { kind = tag; its_kind = w.0; at_parts = b; number = subst (λ n. IsNumber a n b) its number; known = subst (λ n. type_tag_of src.version n ≡ Some tag) its known; parts = w.1 })
     (λ a x b w. record { x = type_tag_code w.kind; v = w.kind; next = w.at_parts; first = w.number; judged = w.known; second = (w.its_kind, w.parts) })

@@ -1,5 +1,5 @@
 -- The readers of the parts of descriptors.
-use Rattle.std.proofs.Common.{◌≡◌, ℕ, ◌^◌, ◌<◌, Bool, true, false, List, [], ◌∷◌, ◌++◌, length, map, Option, Some, None, refl, sym, ap, subst, ◌∙◌}
+use Rattle.std.proofs.Common.{◌≡◌, ℕ, Bool, false, List, [], ◌∷◌, ◌++◌, refl, sym, ◌∙◌}
 use Rattle.std.specs.List.{flat_map}
 use Rattle.std.proofs.lemmas.List.{append-nil}
 use Rattle.std.proofs.lemmas.List.Concat.{flat_map_single}
@@ -9,13 +9,13 @@ use Rattle.type_terms.specs.Trees.{Text}
 use Rattle.type_terms.specs.Shapes.{FieldOf, MethodOf, TermOf, param_types, sig_types, field_types, method_types, term_types}
 use Rattle.decl_spelling.specs.declared.mention.Demand.TheVariants.{Any}
 use Rattle.decl_spelling.specs.Source.{Source}
-use Rattle.decl_spelling.specs.Reading.{truth_at, text_at, path_at, pos_at, type_at, list_at}
+use Rattle.decl_spelling.specs.Reading.{truth_at, text_at, pos_at, type_at, list_at}
 use Rattle.decl_spelling.specs.Descriptors.{Param, Sig, param_at, variadic_at, sig_at, no_origin, field_at, method_at, embedded_at, term_at}
-use Rattle.decl_spelling.specs.Grammar.{Here, IsNumber, IsTruth, IsText, IsPath, IsPos, IsList, IsParam, IsVariadic, IsSig, IsField, IsMethod, IsEmbedded, IsTerm}
+use Rattle.decl_spelling.specs.Grammar.{IsNumber, IsTruth, IsText, IsPos, IsList, IsParam, IsVariadic, IsSig, IsField, IsMethod, IsEmbedded, IsTerm}
 use Rattle.decl_spelling.proofs.Took.{Ask, asking}
 use Rattle.decl_spelling.proofs.Readers.{Reads, nothing, give_reads, as_reads, two_reads, bind_reads}
 use Rattle.decl_spelling.proofs.ReaderSteps.{three_reads, five_reads}
-use Rattle.decl_spelling.proofs.BaseReaders.{truth_reads, text_reads, path_reads, pos_reads, type_reads}
+use Rattle.decl_spelling.proofs.BaseReaders.{truth_reads, text_reads, pos_reads, type_reads}
 use Rattle.decl_spelling.proofs.ListReaders.{asking-append, asking-flat, list_reads}
 
 abbrev pub any_type : ℕ → List Ask
@@ -87,11 +87,22 @@ field_reads src =
     five_reads (pos_at src) (text_at src) (type_at Any) truth_at (text_at src) (IsPos src) (IsText src) IsNumber IsTruth (IsText src) nothing nothing any_type nothing nothing make_field (IsField src) field_asks
     (pos_reads src) (text_reads src) (type_reads Any) truth_reads (text_reads src) (λ pos name type embedded tag. refl)
     (λ a pos b name c type d embedded e tag f first second third fourth fifth.
-      record { at_name = b; at_type = c; at_embedded = d; at_tag = e; origin = refl; pos = first; name = second; type = third; embedded = fourth; tag = fifth })
+    record { at_name = b; at_type = c; at_embedded = d; at_tag = e; origin = refl; pos = first; name = second; type = third; embedded = fourth; tag = fifth })
     (λ a x b w. record {
-      x = x.pos; y = x.name; z = x.type; v = x.embedded; u = x.tag;
-      at_y = w.at_name; at_z = w.at_type; at_v = w.at_embedded; at_u = w.at_tag;
-      first = w.pos; second = w.name; third = w.type; fourth = w.embedded; fifth = w.tag;
+      x = x.pos;
+      y = x.name;
+      z = x.type;
+      v = x.embedded;
+      u = x.tag;
+      at_y = w.at_name;
+      at_z = w.at_type;
+      at_v = w.at_embedded;
+      at_u = w.at_tag;
+      first = w.pos;
+      second = w.name;
+      third = w.type;
+      fourth = w.embedded;
+      fifth = w.tag;
       made = λ i. record { origin = w.origin i; pos = x.pos; name = x.name; type = x.type; embedded = x.embedded; tag = x.tag };
     })
 
@@ -114,7 +125,14 @@ method_reads src =
     (pos_reads src) (text_reads src) (λ pos b name. sig_reads src) (λ pos name sig. refl)
     (λ a pos b name c sig d first second third. record { at_name = b; at_sig = c; origin = refl; pos = first; name = second; sig = third })
     (λ a x b w. record {
-      x = x.pos; y = x.name; z = x.sig; at_y = w.at_name; at_z = w.at_sig; first = w.pos; second = w.name; third = w.sig;
+      x = x.pos;
+      y = x.name;
+      z = x.sig;
+      at_y = w.at_name;
+      at_z = w.at_sig;
+      first = w.pos;
+      second = w.name;
+      third = w.sig;
       made = λ i. record { origin = w.origin i; pos = x.pos; name = x.name; sig = x.sig };
     })
 

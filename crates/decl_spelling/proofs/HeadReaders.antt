@@ -1,5 +1,5 @@
 -- The readers of declarations, up to where types decide what follows, and of methods.
-use Rattle.std.proofs.Common.{◌≡◌, ℕ, ◌<◌, ◌≤◌, Bool, true, false, List, [], ◌∷◌, ◌++◌, length, map, Option, Some, None, Result, Ok, Err, refl, sym, ap, subst, ◌∙◌, arith}
+use Rattle.std.proofs.Common.{◌≡◌, ℕ, ◌≤◌, Bool, true, false, List, [], ◌∷◌, ◌++◌, length, Some, Ok, refl, sym, ap, subst, ◌∙◌, arith}
 use Rattle.std.specs.List.{flat_map}
 use Rattle.std.proofs.lemmas.List.Concat.{flat_map_single}
 use Rattle.code_tables.specs.declared.positions.Pos.{Pos}
@@ -7,24 +7,22 @@ use Rattle.code_tables.specs.declared.declarations.DeclTag.{DeclTag}
 use Rattle.code_tables.specs.declared.declarations.DeclTag.TheVariants.{Var, Func, GenericFunc, Const as ConstTag, Defined, GenericDefined, Alias, GenericAlias, TypeParameter}
 use Rattle.code_tables.specs.DeclTag.{decl_tag_code}
 use Rattle.wire_bytes.specs.declared.fault.ByteFault.TheVariants as faults
-use Rattle.wire_bytes.specs.Reading.{Spot, place, onward, ◌>>=◌, byte_at}
+use Rattle.wire_bytes.specs.Reading.{place, ◌>>=◌, byte_at}
 use Rattle.wire_bytes.specs.Begins.{Begins}
 use Rattle.wire_bytes.proofs.Spellings.{IsBytes}
-use Rattle.wire_bytes.proofs.Many.{Takes}
 use Rattle.wire_bytes.proofs.Cursors.{byte_at_takes, byte_at_again}
 use Rattle.type_terms.specs.Trees.{Text}
-use Rattle.type_terms.specs.Shapes.{sig_types}
 use Rattle.type_terms.specs.Declarations.{var_of, function_of, constant_of, defined_of, renamed_of, type_parameter_of, receiver_types}
 use Rattle.decl_spelling.specs.declared.mention.Demand.{Demand}
-use Rattle.decl_spelling.specs.declared.mention.Demand.TheVariants.{Any, Parameter, Underlying, NoParameter, Interface}
+use Rattle.decl_spelling.specs.declared.mention.Demand.TheVariants.{Any, Parameter, Underlying, NoParameter}
 use Rattle.decl_spelling.specs.Source.{Source}
 use Rattle.decl_spelling.specs.Codes.{decl_tag_of}
-use Rattle.decl_spelling.specs.Reading.{Ahead, Reader, Stopped, or_stop, plain, truth_at, text_at, pos_at, type_at, list_at, some_at}
+use Rattle.decl_spelling.specs.Reading.{Ahead, Reader, or_stop, plain, truth_at, text_at, pos_at, type_at, list_at}
 use Rattle.decl_spelling.specs.Descriptors.{Param, Sig, param_at, sig_at}
 use Rattle.decl_spelling.specs.Declarations.{Receiver, Head, whole, of_type, of_constant, tparams_at, var_at, func_decl_at, generic_func_at, constant_at, defined_at, generic_defined_at, alias_at, generic_alias_at, constraint_demand, parameter_at, head_by, head_at, receiver_at}
 use Rattle.decl_spelling.specs.Grammar.{Here, IsNumber, IsTruth, IsText, IsPos, IsList, IsParam, IsSig}
 use Rattle.decl_spelling.specs.Spelling.{IsReceiver}
-use Rattle.decl_spelling.proofs.Took.{Ask, asking, unplaced, seen_from, Fits, Went, Took, Few, Again, IsHeadParts, kind_of_head, IsHead, head_asks, unplaced_head}
+use Rattle.decl_spelling.proofs.Took.{Ask, asking, unplaced, seen_from, Fits, Again, IsHeadParts, kind_of_head, IsHead, head_asks, unplaced_head}
 use Rattle.decl_spelling.proofs.Readers.{went_nowhere, went_on, Answered, Reads, nothing, ask_reads, then_answers, judged_answers, onward_answers, two_reads}
 use Rattle.decl_spelling.proofs.ReaderSteps.{three_reads, three_reads_where, four_reads}
 use Rattle.decl_spelling.proofs.BaseReaders.{plain_reads, number_reads, truth_reads, text_reads, pos_reads, type_reads}
@@ -184,8 +182,8 @@ constant_answers src bytes a fits =
     then_answers (IsPos src) nothing (IsHeadOf src ConstTag) head_asks a a [] (pos_at src a) (λ pos. type_at Any pos.1 >>= λ type. Ok (of_constant pos.0 type.0 (place (pos.1).spot), type.1)) (went_nowhere a fits)
     ((pos_reads src).takes bytes a fits)
     (λ pos b first.
-      then_answers IsNumber any_type (IsHeadOf src ConstTag) head_asks a b [] (type_at Any b) (λ type. Ok (of_constant pos type.0 (place b.spot), type.1)) first.went ((type_reads {Given = Unit {0}} Any).takes tt b first.went.fits)
-      (λ type c second. record { stands = λ tail. (pos, type, place b.spot, refl, (seen_from b tail, first.stands tail, second.stands tail)); went = went_on a b c [] (any_type type) first.went second.went }))
+    then_answers IsNumber any_type (IsHeadOf src ConstTag) head_asks a b [] (type_at Any b) (λ type. Ok (of_constant pos type.0 (place b.spot), type.1)) first.went ((type_reads {Given = Unit {0}} Any).takes tt b first.went.fits)
+    (λ type c second. record { stands = λ tail. (pos, type, place b.spot, refl, (seen_from b tail, first.stands tail, second.stands tail)); went = went_on a b c [] (any_type type) first.went second.went }))
 
 -- Up to that place, the head that stands there is read again.
 abbrev pub HeadAgain : Reader Head → Ahead → Head → List ℕ → Here → Type 0
@@ -267,10 +265,10 @@ head_answers src bytes a fits =
     then_answers IsByte nothing (IsHead src) head_asks a a [] (plain a (byte_at a.spot)) (λ byte. or_stop a (faults.Tag (place a.spot) byte.0) (decl_tag_of src.version byte.0) >>= λ tag. head_by src tag byte.1) (went_nowhere a fits)
     ((byte_reads {Given = Unit {0}}).takes tt a fits)
     (λ n b first.
-      judged_answers (IsHead src) head_asks a (faults.Tag (place a.spot) n) (decl_tag_of src.version n) (λ tag. head_by src tag b)
-      (λ tag known.
-        onward_answers (IsHeadOf src tag) head_asks (IsHead src) a b (head_by src tag b) first.went (head_by_answers src bytes tag b first.went.fits)
-        (λ x c second tail. head_joins src tag n (seen_from a tail) (seen_from b tail) x (seen_from c tail) (first.stands tail) known (second.stands tail))))
+    judged_answers (IsHead src) head_asks a (faults.Tag (place a.spot) n) (decl_tag_of src.version n) (λ tag. head_by src tag b)
+    (λ tag known.
+    onward_answers (IsHeadOf src tag) head_asks (IsHead src) a b (head_by src tag b) first.went (head_by_answers src bytes tag b first.went.fits)
+    (λ x c second tail. head_joins src tag n (seen_from a tail) (seen_from b tail) x (seen_from c tail) (first.stands tail) known (second.stands tail))))
 
 pub head_again : (src : Source) (a : Ahead) (tail : List ℕ) (x : Head) (after : Here) → IsHead src (seen_from a tail) x after → length tail ≤ length after.left → HeadAgain (head_at src) a x tail after
 unfolding head_at
@@ -305,9 +303,17 @@ receiver_reads src =
     (pos_reads src) (text_reads src) (param_reads src) (sig_reads src) (λ pos name recv sig. refl)
     (λ a pos b name c recv d sig e first second third fourth. record { at_name = b; at_recv = c; at_sig = d; pos = first; name = second; recv = third; sig = fourth })
     (λ a x b w. record {
-      x = x.pos; y = x.name; z = x.recv; v = x.sig;
-      at_y = w.at_name; at_z = w.at_recv; at_v = w.at_sig;
-      first = w.pos; second = w.name; third = w.recv; fourth = w.sig;
+      x = x.pos;
+      y = x.name;
+      z = x.recv;
+      v = x.sig;
+      at_y = w.at_name;
+      at_z = w.at_recv;
+      at_v = w.at_sig;
+      first = w.pos;
+      second = w.name;
+      third = w.recv;
+      fourth = w.sig;
       made = refl;
     })
 

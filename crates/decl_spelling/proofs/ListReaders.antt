@@ -1,11 +1,11 @@
 -- Readers of things that stand one after the other.
-use Rattle.std.proofs.Common.{◌≡◌, ℕ, zero, suc, ◌<◌, ◌≤◌, Bool, true, List, [], ◌∷◌, ◌++◌, length, map, Result, Ok, Err, refl, sym, ap, subst, ◌∙◌, arith}
+use Rattle.std.proofs.Common.{◌≡◌, ℕ, zero, suc, ◌<◌, ◌≤◌, List, [], ◌∷◌, ◌++◌, length, refl, sym, ap, subst, ◌∙◌, arith}
 use Rattle.std.specs.Prelude.{nat_lt}
 use Rattle.std.specs.List.{flat_map}
 use Rattle.std.proofs.lemmas.Bool.{ltb-true, lt-ltb}
 use Rattle.std.proofs.lemmas.List.{map-append}
 use Rattle.wire_bytes.specs.declared.fault.ByteFault.TheVariants as faults
-use Rattle.wire_bytes.specs.Reading.{place, ◌>>=◌}
+use Rattle.wire_bytes.specs.Reading.{place}
 use Rattle.decl_spelling.specs.declared.mention.Demand.{Demand}
 use Rattle.decl_spelling.specs.Reading.{Ahead, Reader, number_at, times, list_at, some_at}
 use Rattle.decl_spelling.specs.Grammar.{Here, IsNumber, InTurn, IsList}

@@ -1,10 +1,10 @@
 -- Readers of three steps and more.
-use Rattle.std.proofs.Common.{◌≡◌, ℕ, ◌+◌, ◌≤◌, List, [], ◌++◌, length, Result, Ok, Err, sym, ap, subst, arith, None}
+use Rattle.std.proofs.Common.{◌≡◌, ◌≤◌, List, [], ◌++◌, length, Ok, sym, ap, subst, arith, None}
 use Rattle.wire_bytes.specs.Reading.{◌>>=◌}
 use Rattle.decl_spelling.specs.Reading.{Ahead, Reader}
 use Rattle.decl_spelling.specs.Grammar.{Here}
-use Rattle.decl_spelling.proofs.Took.{Ask, seen_from, Fits, Went, Took, Few, Again}
-use Rattle.decl_spelling.proofs.Readers.{went_nowhere, went_on, Answered, Reads, then_answers}
+use Rattle.decl_spelling.proofs.Took.{Ask, seen_from, Went}
+use Rattle.decl_spelling.proofs.Readers.{went_nowhere, went_on, Reads, then_answers}
 
 -- The third reader may depend on what was read before it, and on where the second one began.
 module _ {X Y Z W : Type 0} (p : Reader X) (q : Reader Y) (r : X → Ahead → Y → Reader Z) (F : Here → X → Here → Type 0) (G : Here → Y → Here → Type 0) (H : X → Y → Here → Z → Here → Type 0)
@@ -28,13 +28,13 @@ module _ {X Y Z W : Type 0} (p : Reader X) (q : Reader Y) (r : X → Ahead → Y
   three_reads_where rp rq rr same join split = record {
     takes = λ given a fits. then_answers F asks_x T all a a [] (p a) (λ x. q x.1 >>= λ y. r x.0 x.1 y.0 y.1 >>= λ z. Ok (make x.0 y.0 z.0, z.1)) (went_nowhere a fits) (rp.takes given a fits)
         (λ x b tx. then_answers G asks_y T all a b (asks_x x) (q b) (λ y. r x b y.0 y.1 >>= λ z. Ok (make x y.0 z.0, z.1)) tx.went (rq.takes given b tx.went.fits)
-          (λ y c ty.
-            let two = went_on a b c (asks_x x) (asks_y y) tx.went ty.went in
-            then_answers (H x y) (asks_z x y) T all a c (asks_x x ++ asks_y y) (r x b y c) (λ z. Ok (make x y z.0, z.1)) two ((rr x b y).takes given c two.fits)
-            (λ z d tz. record {
-              stands = λ tail. join _ _ _ _ _ _ _ (tx.stands tail) (ty.stands tail) (tz.stands tail);
-              went = subst (λ ks. Went a ks d) (same x _ _ y z (ty.stands [])) (went_on a b d (asks_x x) (asks_y y ++ asks_z x y z) tx.went (went_on b c d (asks_y y) (asks_z x y z) ty.went tz.went));
-            })));
+        (λ y c ty.
+        let two = went_on a b c (asks_x x) (asks_y y) tx.went ty.went in
+        then_answers (H x y) (asks_z x y) T all a c (asks_x x ++ asks_y y) (r x b y c) (λ z. Ok (make x y z.0, z.1)) two ((rr x b y).takes given c two.fits)
+        (λ z d tz. record {
+          stands = λ tail. join _ _ _ _ _ _ _ (tx.stands tail) (ty.stands tail) (tz.stands tail);
+          went = subst (λ ks. Went a ks d) (same x _ _ y z (ty.stands [])) (went_on a b d (asks_x x) (asks_y y ++ asks_z x y z) tx.went (went_on b c d (asks_y y) (asks_z x y z) ty.went tz.went));
+        })));
     again = λ a tail w after t le.
         let s = split (seen_from a tail) w after t in
         let le_z : length tail ≤ length s.at_z.left = omega (arith, le, (rr s.x a s.y).shrinks s.at_z s.z after s.third) in
@@ -81,17 +81,17 @@ module _ {X Y Z V W : Type 0} (p : Reader X) (q : Reader Y) (r : Reader Z) (s : 
   four_reads rp rq rr rs same join split = record {
     takes = λ given a fits. then_answers F asks_x T all a a [] (p a) (λ x. q x.1 >>= λ y. r y.1 >>= λ z. s z.1 >>= λ v. Ok (make x.0 y.0 z.0 v.0, v.1)) (went_nowhere a fits) (rp.takes given a fits)
         (λ x b tx. then_answers G asks_y T all a b (asks_x x) (q b) (λ y. r y.1 >>= λ z. s z.1 >>= λ v. Ok (make x y.0 z.0 v.0, v.1)) tx.went (rq.takes given b tx.went.fits)
-          (λ y c ty.
-            let two = went_on a b c (asks_x x) (asks_y y) tx.went ty.went in
-            then_answers H asks_z T all a c (asks_x x ++ asks_y y) (r c) (λ z. s z.1 >>= λ v. Ok (make x y z.0 v.0, v.1)) two (rr.takes given c two.fits)
-            (λ z d tz.
-              let three = went_on a c d (asks_x x ++ asks_y y) (asks_z z) two tz.went in
-              then_answers I asks_v T all a d ((asks_x x ++ asks_y y) ++ asks_z z) (s d) (λ v. Ok (make x y z v.0, v.1)) three (rs.takes given d three.fits)
-              (λ v e tv. record {
-                stands = λ tail. join _ _ _ _ _ _ _ _ _ (tx.stands tail) (ty.stands tail) (tz.stands tail) (tv.stands tail);
-                went = subst (λ ks. Went a ks e) (same x y z v)
-                    (went_on a b e (asks_x x) (asks_y y ++ (asks_z z ++ asks_v v)) tx.went (went_on b c e (asks_y y) (asks_z z ++ asks_v v) ty.went (went_on c d e (asks_z z) (asks_v v) tz.went tv.went)));
-              }))));
+        (λ y c ty.
+        let two = went_on a b c (asks_x x) (asks_y y) tx.went ty.went in
+        then_answers H asks_z T all a c (asks_x x ++ asks_y y) (r c) (λ z. s z.1 >>= λ v. Ok (make x y z.0 v.0, v.1)) two (rr.takes given c two.fits)
+        (λ z d tz.
+        let three = went_on a c d (asks_x x ++ asks_y y) (asks_z z) two tz.went in
+        then_answers I asks_v T all a d ((asks_x x ++ asks_y y) ++ asks_z z) (s d) (λ v. Ok (make x y z v.0, v.1)) three (rs.takes given d three.fits)
+        (λ v e tv. record {
+          stands = λ tail. join _ _ _ _ _ _ _ _ _ (tx.stands tail) (ty.stands tail) (tz.stands tail) (tv.stands tail);
+          went = subst (λ ks. Went a ks e) (same x y z v)
+              (went_on a b e (asks_x x) (asks_y y ++ (asks_z z ++ asks_v v)) tx.went (went_on b c e (asks_y y) (asks_z z ++ asks_v v) ty.went (went_on c d e (asks_z z) (asks_v v) tz.went tv.went)));
+        }))));
     again = λ a tail w after t le.
         let k = split (seen_from a tail) w after t in
         let le_v : length tail ≤ length k.at_v.left = omega (arith, le, rs.shrinks k.at_v k.v after k.fourth) in
@@ -134,22 +134,22 @@ module _ {X Y Z V U W : Type 0} (p : Reader X) (q : Reader Y) (r : Reader Z) (s 
   five_reads rp rq rr rs rt same join split = record {
     takes = λ given a fits. then_answers F asks_x T all a a [] (p a) (λ x. q x.1 >>= λ y. r y.1 >>= λ z. s z.1 >>= λ v. t v.1 >>= λ u. Ok (make x.0 y.0 z.0 v.0 u.0, u.1)) (went_nowhere a fits) (rp.takes given a fits)
         (λ x b tx. then_answers G asks_y T all a b (asks_x x) (q b) (λ y. r y.1 >>= λ z. s z.1 >>= λ v. t v.1 >>= λ u. Ok (make x y.0 z.0 v.0 u.0, u.1)) tx.went (rq.takes given b tx.went.fits)
-          (λ y c ty.
-            let two = went_on a b c (asks_x x) (asks_y y) tx.went ty.went in
-            then_answers H asks_z T all a c (asks_x x ++ asks_y y) (r c) (λ z. s z.1 >>= λ v. t v.1 >>= λ u. Ok (make x y z.0 v.0 u.0, u.1)) two (rr.takes given c two.fits)
-            (λ z d tz.
-              let three = went_on a c d (asks_x x ++ asks_y y) (asks_z z) two tz.went in
-              then_answers I asks_v T all a d ((asks_x x ++ asks_y y) ++ asks_z z) (s d) (λ v. t v.1 >>= λ u. Ok (make x y z v.0 u.0, u.1)) three (rs.takes given d three.fits)
-              (λ v e tv.
-                let four = went_on a d e ((asks_x x ++ asks_y y) ++ asks_z z) (asks_v v) three tv.went in
-                then_answers J asks_u T all a e (((asks_x x ++ asks_y y) ++ asks_z z) ++ asks_v v) (t e) (λ u. Ok (make x y z v u.0, u.1)) four (rt.takes given e four.fits)
-                (λ u f tu. record {
-                  stands = λ tail. join _ _ _ _ _ _ _ _ _ _ _ (tx.stands tail) (ty.stands tail) (tz.stands tail) (tv.stands tail) (tu.stands tail);
-                  went = subst (λ ks. Went a ks f) (same x y z v u)
-                      (went_on a b f (asks_x x) (asks_y y ++ (asks_z z ++ (asks_v v ++ asks_u u))) tx.went
-                      (went_on b c f (asks_y y) (asks_z z ++ (asks_v v ++ asks_u u)) ty.went
-                      (went_on c d f (asks_z z) (asks_v v ++ asks_u u) tz.went (went_on d e f (asks_v v) (asks_u u) tv.went tu.went))));
-                })))));
+        (λ y c ty.
+        let two = went_on a b c (asks_x x) (asks_y y) tx.went ty.went in
+        then_answers H asks_z T all a c (asks_x x ++ asks_y y) (r c) (λ z. s z.1 >>= λ v. t v.1 >>= λ u. Ok (make x y z.0 v.0 u.0, u.1)) two (rr.takes given c two.fits)
+        (λ z d tz.
+        let three = went_on a c d (asks_x x ++ asks_y y) (asks_z z) two tz.went in
+        then_answers I asks_v T all a d ((asks_x x ++ asks_y y) ++ asks_z z) (s d) (λ v. t v.1 >>= λ u. Ok (make x y z v.0 u.0, u.1)) three (rs.takes given d three.fits)
+        (λ v e tv.
+        let four = went_on a d e ((asks_x x ++ asks_y y) ++ asks_z z) (asks_v v) three tv.went in
+        then_answers J asks_u T all a e (((asks_x x ++ asks_y y) ++ asks_z z) ++ asks_v v) (t e) (λ u. Ok (make x y z v u.0, u.1)) four (rt.takes given e four.fits)
+        (λ u f tu. record {
+          stands = λ tail. join _ _ _ _ _ _ _ _ _ _ _ (tx.stands tail) (ty.stands tail) (tz.stands tail) (tv.stands tail) (tu.stands tail);
+          went = subst (λ ks. Went a ks f) (same x y z v u)
+              (went_on a b f (asks_x x) (asks_y y ++ (asks_z z ++ (asks_v v ++ asks_u u))) tx.went
+              (went_on b c f (asks_y y) (asks_z z ++ (asks_v v ++ asks_u u)) ty.went
+              (went_on c d f (asks_z z) (asks_v v ++ asks_u u) tz.went (went_on d e f (asks_v v) (asks_u u) tv.went tu.went))));
+        })))));
     again = λ a tail w after stands le.
         let k = split (seen_from a tail) w after stands in
         let le_u : length tail ≤ length k.at_u.left = omega (arith, le, rt.shrinks k.at_u k.u after k.fifth) in

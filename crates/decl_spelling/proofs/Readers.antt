@@ -1,11 +1,11 @@
 -- A property of readers that is closed under the ways in which readers are built: what is read stands there whatever follows, what
 -- stands there is read again, and the types that were named are logged.
-use Rattle.std.proofs.Common.{◌≡◌, ℕ, zero, suc, ◌+◌, ◌-◌, ◌^◌, ◌<◌, ◌≤◌, Bool, true, false, List, [], ◌∷◌, ◌++◌, length, map, Option, Some, None, Result, Ok, Err, refl, sym, ap, subst, ◌∙◌, append_assoc, arith, length-append}
+use Rattle.std.proofs.Common.{◌≡◌, ℕ, ◌≤◌, Bool, true, false, List, [], ◌∷◌, ◌++◌, length, map, Option, Some, None, Result, Ok, Err, refl, sym, ap, subst, ◌∙◌, append_assoc, arith, length-append}
 use Rattle.std.proofs.lemmas.List.{append-nil}
 use Rattle.wire_bytes.specs.declared.fault.ByteFault.{ByteFault}
-use Rattle.wire_bytes.specs.Reading.{Spot, place, ◌>>=◌}
+use Rattle.wire_bytes.specs.Reading.{◌>>=◌}
 use Rattle.decl_spelling.specs.declared.mention.Mention.{Mention}
-use Rattle.decl_spelling.specs.Reading.{Ahead, Reader, Stopped, stop, ask, or_stop}
+use Rattle.decl_spelling.specs.Reading.{Ahead, Reader, Stopped, ask, or_stop}
 use Rattle.decl_spelling.specs.Grammar.{Here}
 use Rattle.decl_spelling.proofs.Took.{Ask, ask_of, seen_from, Fits, Went, Took, Few, Again}
 
@@ -155,7 +155,7 @@ module _ {X Y W : Type 0} (p : Reader X) (q : Reader Y) (F : Here → X → Here
   two_reads rp rq same join split = record {
     takes = λ given a fits. then_answers F asks_x T all a a [] (p a) (λ x. q x.1 >>= λ y. Ok (make x.0 y.0, y.1)) (went_nowhere a fits) (rp.takes given a fits)
         (λ x b tx. then_answers G asks_y T all a b (asks_x x) (q b) (λ y. Ok (make x y.0, y.1)) tx.went (rq.takes given b tx.went.fits)
-          (λ y c ty. record { stands = λ tail. join _ _ _ _ _ (tx.stands tail) (ty.stands tail); went = subst (λ ks. Went a ks c) (same x y) (went_on a b c (asks_x x) (asks_y y) tx.went ty.went) }));
+        (λ y c ty. record { stands = λ tail. join _ _ _ _ _ (tx.stands tail) (ty.stands tail); went = subst (λ ks. Went a ks c) (same x y) (went_on a b c (asks_x x) (asks_y y) tx.went ty.went) }));
     again = λ a tail w after t le.
         let s = split (seen_from a tail) w after t in
         let first = rp.again a tail s.x s.at_y s.first (omega (arith, le, rq.shrinks s.at_y s.y after s.second)) in
@@ -203,7 +203,7 @@ module _ {X V Z : Type 0} (p : Reader X) (fault : Ahead → X → ByteFault) (ju
   judged_reads rp rq join split = record {
     takes = λ given a fits. then_answers F nothing T all a a [] (p a) (λ x. or_stop a (fault a x.0) (judge x.0) >>= λ v. q v x.1) (went_nowhere a fits) (rp.takes given a fits)
         (λ x b tx. judged_answers T all a (fault a x) (judge x) (λ v. q v b)
-          (λ v e. onward_answers (G v) all T a b (q v b) tx.went ((rq v).takes given b tx.went.fits) (λ z c tz tail. join given _ _ _ _ _ _ (tx.stands tail) e (tz.stands tail))));
+        (λ v e. onward_answers (G v) all T a b (q v b) tx.went ((rq v).takes given b tx.went.fits) (λ z c tz tail. join given _ _ _ _ _ _ (tx.stands tail) e (tz.stands tail))));
     again = λ a tail z after t le.
         let s = split (seen_from a tail) z after t in
         let first = rp.again a tail s.x s.next s.first (omega (arith, le, (rq s.v).shrinks s.next z after s.second)) in
@@ -227,7 +227,7 @@ module _ {X Z : Type 0} (p : Reader X) (fault : Ahead → X → ByteFault) (test
   tested_reads rp rq join split = record {
     takes = λ given a fits. then_answers F nothing T all a a [] (p a) (λ x. ask a (test x.0) (fault a x.0) >>= λ u. q x.0 x.1) (went_nowhere a fits) (rp.takes given a fits)
         (λ x b tx. asked_answers T all a (fault a x) (test x) (λ u. q x b)
-          (λ e. onward_answers (G x) all T a b (q x b) tx.went ((rq x).takes given b tx.went.fits) (λ z c tz tail. join _ _ _ _ _ (tx.stands tail) e (tz.stands tail))));
+        (λ e. onward_answers (G x) all T a b (q x b) tx.went ((rq x).takes given b tx.went.fits) (λ z c tz tail. join _ _ _ _ _ (tx.stands tail) e (tz.stands tail))));
     again = λ a tail z after t le.
         let s = split (seen_from a tail) z after t in
         let first = rp.again a tail s.x s.next s.first (omega (arith, le, (rq s.x).shrinks s.next z after s.second)) in

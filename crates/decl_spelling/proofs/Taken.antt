@@ -1,10 +1,9 @@
 -- What readers of single bytes' grammars take: flags, signed numbers, whole constants and places.
-use Rattle.std.proofs.Common.{◌≡◌, ◌≢◌, ℕ, zero, suc, ◌+◌, ◌-◌, ◌*◌, ◌/◌, ◌%◌, ◌^◌, ◌<◌, ◌≤◌, Bool, true, false, not, cond, ltb, List, [], ◌∷◌, ◌++◌, length, Option, Some, None, Result, Ok, Err, refl, sym, ap, subst, ◌∙◌, inl, inr, arith}
+use Rattle.std.proofs.Common.{◌≡◌, ◌≢◌, ℕ, zero, suc, ◌+◌, ◌-◌, ◌/◌, ◌%◌, ◌^◌, ◌<◌, ◌≤◌, Bool, true, false, not, cond, ltb, List, [], ◌∷◌, ◌++◌, Some, None, Ok, Err, refl, sym, ap, subst, ◌∙◌, inl, inr, arith}
 use Rattle.std.specs.Prelude.{ℤ, pos, negsuc, ◌==◌, nat_eq}
 use Rattle.std.specs.Cmp.Lexicographic.{pointwise}
 use Rattle.std.proofs.lemmas.Bool.{ltb-true, ltb-false, eqb-true, eqb-false}
 use Rattle.std.proofs.lemmas.Cmp.{nat_list_eq_equiv}
-use Rattle.wire_bytes.specs.declared.fault.ByteFault.{ByteFault}
 use Rattle.wire_bytes.specs.declared.fault.ByteFault.TheVariants as faults
 use Rattle.wire_bytes.specs.Reading.{Spot, place, onward, ◌>>=◌, demand, or_fault, byte_at, bytes_at}
 use Rattle.wire_bytes.specs.Begins.{Begins}
@@ -12,13 +11,13 @@ use Rattle.wire_bytes.specs.Uvarint.{Uvarint, BeginsWith, uvarint_at}
 use Rattle.wire_bytes.specs.Varint.{Varint, Flag, number_of, signed_of, varint_at, flag_of, flag_at}
 use Rattle.wire_bytes.specs.Whole.{IsGreatestLength, Whole, small_limit, length_behind, judged, value_of, long_at, whole_at}
 use Rattle.wire_bytes.specs.Text.{Text, text_in}
-use Rattle.wire_bytes.proofs.Steps.{bind_ok, demand_ok, chosen, done, done_is}
+use Rattle.wire_bytes.proofs.Steps.{bind_ok, demand_ok, chosen, done_is}
 use Rattle.wire_bytes.proofs.Spellings.{IsBytes}
 use Rattle.wire_bytes.proofs.Texts.{text_takes}
 use Rattle.wire_bytes.proofs.Many.{Takes}
 use Rattle.wire_bytes.proofs.Cursors.{uvarint_at_takes, uvarint_at_again, byte_at_takes, bytes_at_takes, or_fault_ok}
 use Rattle.wire_bytes.proofs.Wholes.{long_takes, found_short, found_long}
-use Rattle.position_codec.specs.Place.{Place, Named, delta, half, is_odd, moved}
+use Rattle.position_codec.specs.Place.{Place, Named, half, is_odd, moved}
 use Rattle.position_codec.specs.Position.{Position, moved_at, file_at, line_at, behind_line, behind_column, position_at}
 use Rattle.position_codec.proofs.Differences.{number_zero}
 use Rattle.position_codec.proofs.Places.{Moves, column_stands, line_stands, file_stands}

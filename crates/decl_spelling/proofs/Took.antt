@@ -1,17 +1,15 @@
 -- What is said of a reader of a block's own bytes.
-use Rattle.std.proofs.Common.{◌≡◌, ℕ, ◌+◌, ◌^◌, ◌<◌, ◌≤◌, Bool, List, [], ◌∷◌, ◌++◌, length, map, refl, Ok}
+use Rattle.std.proofs.Common.{◌≡◌, ℕ, ◌+◌, ◌^◌, ◌<◌, ◌≤◌, List, [], ◌∷◌, ◌++◌, length, map, refl, Ok}
 use Rattle.wire_bytes.proofs.Spellings.{IsBytes}
-use Rattle.code_tables.specs.declared.positions.Pos.{Pos}
 use Rattle.code_tables.specs.declared.constants.Const.{Const}
 use Rattle.code_tables.specs.declared.declarations.DeclTag.{DeclTag}
 use Rattle.code_tables.specs.declared.declarations.DeclTag.TheVariants.{Var, Func, GenericFunc, Const as ConstTag, Defined, GenericDefined, Alias, GenericAlias, TypeParameter}
 use Rattle.code_tables.specs.DeclTag.{decl_tag_code}
 use Rattle.std.specs.Prelude.{Some}
-use Rattle.std.specs.List.{flat_map}
 use Rattle.wire_bytes.specs.Whole.{IsGreatestLength}
 use Rattle.type_terms.specs.Trees.{Tree}
-use Rattle.type_terms.specs.Shapes.{Shape, predeclared_of, named_of, parameter_of, alias_of, pointer_of, slice_of, array_of, chan_of, map_of, func_of, struct_of, interface_of, instance_of, union_of, shape_types, sig_types}
-use Rattle.type_terms.specs.Declarations.{Form, var_of, function_of, constant_of, defined_of, renamed_of, type_parameter_of}
+use Rattle.type_terms.specs.Shapes.{predeclared_of, named_of, parameter_of, alias_of, pointer_of, slice_of, array_of, chan_of, map_of, func_of, struct_of, interface_of, instance_of, union_of, shape_types, sig_types}
+use Rattle.type_terms.specs.Declarations.{var_of, function_of, constant_of, defined_of, renamed_of, type_parameter_of}
 use Rattle.decl_spelling.specs.declared.mention.Mention.{Mention}
 use Rattle.decl_spelling.specs.declared.mention.Demand.{Demand}
 use Rattle.decl_spelling.specs.declared.mention.Demand.TheVariants.{Any, Parameter, Underlying, Base, NoParameter, Interface}

@@ -1,5 +1,5 @@
 -- The readers of constants' values.
-use Rattle.std.proofs.Common.{◌≡◌, ◌≢◌, ℕ, ◌*◌, ◌≤◌, Bool, true, false, cond, List, [], ◌∷◌, ◌++◌, length, Result, Ok, Err, refl, sym, ap, subst, ◌∙◌, inl, inr, ◌⊎◌, arith}
+use Rattle.std.proofs.Common.{◌≡◌, ℕ, ◌*◌, Bool, true, false, cond, List, Result, Ok, Err, refl, sym, ap, subst, ◌∙◌, inl, inr}
 use Rattle.std.specs.Prelude.{ℤ, ◌==◌}
 use Rattle.std.proofs.lemmas.Bool.{eqb-true, eqb-false, eq-eqb}
 use Rattle.code_tables.specs.declared.predeclared.Basic.{Basic}
@@ -7,20 +7,19 @@ use Rattle.code_tables.specs.declared.predeclared.Basic.TheVariants as b
 use Rattle.code_tables.specs.declared.constants.Const.{Const}
 use Rattle.code_tables.specs.declared.constants.Const.TheVariants.{Bool as truth, Int as whole, Str as text}
 use Rattle.wire_bytes.specs.declared.fault.ByteFault.TheVariants as faults
-use Rattle.wire_bytes.specs.Reading.{place, onward, ◌>>=◌}
+use Rattle.wire_bytes.specs.Reading.{place}
 use Rattle.wire_bytes.specs.Begins.{Begins}
-use Rattle.wire_bytes.specs.Uvarint.{Uvarint}
 use Rattle.wire_bytes.specs.Varint.{Varint, number_of, signed_of, varint_at}
-use Rattle.wire_bytes.specs.Whole.{IsGreatestLength, Whole, whole_at}
+use Rattle.wire_bytes.specs.Whole.{Whole, whole_at}
 use Rattle.wire_bytes.proofs.Spellings.{IsBytes}
 use Rattle.wire_bytes.proofs.WholeSpellings.{whole_again}
 use Rattle.position_codec.proofs.Readings.{varint_at_again}
 use Rattle.decl_spelling.specs.Source.{Source}
 use Rattle.decl_spelling.specs.Reading.{Ahead, Reader, Stopped, plain, truth_at, text_at}
-use Rattle.decl_spelling.specs.Constants.{Spelling, flag, offset, number, spelled, floating, none, kind_of, kind_number, kind_given_at, kind_at, with_value, spelled_at, value_at}
+use Rattle.decl_spelling.specs.Constants.{Spelling, flag, offset, number, spelled, kind_of, kind_number, kind_given_at, kind_at, with_value, spelled_at, value_at}
 use Rattle.decl_spelling.specs.Grammar.{Here, IsNumber, IsTruth, IsText}
 use Rattle.decl_spelling.specs.Spelling.{IsKind, IsSpelled}
-use Rattle.decl_spelling.proofs.Took.{Ask, seen_from, Fits, Went, Took, Few, Again, IsSpelling, IsValueOf}
+use Rattle.decl_spelling.proofs.Took.{seen_from, IsSpelling, IsValueOf}
 use Rattle.decl_spelling.proofs.Readers.{Answered, Reads, nothing, give, give_reads, as_reads, bind_reads, tested_reads}
 use Rattle.decl_spelling.proofs.BaseReaders.{plain_reads, truth_reads, text_reads}
 use Rattle.decl_spelling.proofs.Taken.{varint_takes, whole_takes, number_again}
