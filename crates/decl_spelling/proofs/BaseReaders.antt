@@ -18,7 +18,7 @@ use Rattle.position_codec.specs.Position.{position_at}
 use Rattle.position_codec.proofs.Readings.{position_again}
 use Rattle.decl_spelling.specs.declared.mention.Demand.{Demand}
 use Rattle.decl_spelling.specs.Source.{Source, path_of}
-use Rattle.decl_spelling.specs.Reading.{Ahead, onto, plain, placed, number_at, truth_at, text_at, path_by, path_at, pos_at, type_at}
+use Rattle.decl_spelling.specs.Reading.{Ahead, Stopped, onto, plain, placed, number_at, truth_at, text_at, path_by, path_at, pos_at, type_at}
 use Rattle.decl_spelling.specs.Grammar.{Here, IsNumber, IsTruth, IsText, IsPath, IsPos}
 use Rattle.decl_spelling.proofs.Took.{unplaced, Fits}
 use Rattle.decl_spelling.proofs.Readers.{Answered, Reads, nothing, give, give_reads, judged_reads}
@@ -141,6 +141,10 @@ takes_some : (front : List ℕ) (n : ℕ) → Uvarint front n → 0 < length fro
 takes_some [] n spelled = elim spelled.groups [ ]
 takes_some (b ∷ front) n spelled = omega arith
 
+-- the number with its mention
+abbrev logged : Demand → Ahead → ℕ × Ahead → Result (ℕ × Ahead) Stopped
+logged asked a x = Ok (x.0, record { spot = (x.1).spot; before = a.before; mentions = a.mentions ++ record { at = place a.spot; value = x.0; asked = asked } ∷ [] })
+
 pub type_reads : {Given : Type 0} (asked : Demand) → Reads Given (type_at asked) IsNumber (λ n. (n, unplaced asked) ∷ [])
 unfolding type_at
 type_reads asked = record {
@@ -152,7 +156,7 @@ type_reads asked = record {
   shrinks = (number_reads {Given = Unit {0}}).shrinks;
 }
   where
-    by : (a : Ahead) → Fits a → (r : Result (ℕ × Spot) ByteFault) → uvarint_at a.spot ≡ r → Answered IsNumber (λ n. (n, unplaced asked) ∷ []) a (plain a r >>= λ number. Ok (number.0, record { spot = (number.1).spot; before = a.before; mentions = a.mentions ++ record { at = place a.spot; value = number.0; asked = asked } ∷ [] }))
+    by : (a : Ahead) → Fits a → (r : Result (ℕ × Spot) ByteFault) → uvarint_at a.spot ≡ r → Answered IsNumber (λ n. (n, unplaced asked) ∷ []) a (plain a r >>= logged asked a)
     by a fits (Ok y) e =
         let t = uvarint_at_takes a.spot y.0 y.1 fits.bytes e in
         record {

@@ -22,10 +22,6 @@ pub asking-flat : {X : Type 0} (asked : Demand) (types : X → List ℕ) (xs : L
 asking-flat asked types [] = refl
 asking-flat asked types (x ∷ xs) = ap (λ (asks : List Ask). asking asked (types x) ++ asks) (asking-flat asked types xs) ∙ asking-append asked (types x) (flat_map types xs)
 
-pub flat-single : (xs : List ℕ) → flat_map (λ x. x ∷ []) xs ≡ xs
-flat-single [] = refl
-flat-single (x ∷ xs) = ap (λ (others : List ℕ). x ∷ others) (flat-single xs)
-
 -- ---- the readers
 
 module _ {X : Type 0} (one : Reader X) (F : Here → X → Here → Type 0) (asks : X → List Ask) where

@@ -1,7 +1,7 @@
 -- A property of readers that is closed under the ways in which readers are built: what is read stands there whatever follows, what
 -- stands there is read again, and the types that were named are logged.
-use Rattle.std.proofs.Common.{◌≡◌, ℕ, ◌≤◌, Bool, true, false, List, [], ◌∷◌, ◌++◌, length, map, Option, Some, None, Result, Ok, Err, refl, sym, ap, subst, ◌∙◌, append_assoc, arith, length-append}
-use Rattle.std.proofs.lemmas.List.{append-nil}
+use Rattle.std.proofs.Common.{◌≡◌, ℕ, ◌≤◌, Bool, true, false, List, [], ◌∷◌, ◌++◌, length, Option, Some, None, Result, Ok, Err, refl, sym, ap, subst, ◌∙◌, append_assoc, arith, length-append}
+use Rattle.std.proofs.lemmas.List.{append-nil, map-append}
 use Rattle.wire_bytes.specs.declared.fault.ByteFault.{ByteFault}
 use Rattle.wire_bytes.specs.Reading.{◌>>=◌}
 use Rattle.decl_spelling.specs.declared.mention.Mention.{Mention}
@@ -11,21 +11,14 @@ use Rattle.decl_spelling.proofs.Took.{Ask, ask_of, seen_from, Fits, Went, Took, 
 
 -- ---- from one place to the next
 
-pub map-append : (xs ys : List Mention) → map ask_of (xs ++ ys) ≡ map ask_of xs ++ map ask_of ys
-map-append [] ys = refl
-map-append (x ∷ xs) ys = ap (λ (asks : List Ask). ask_of x ∷ asks) (map-append xs ys)
-
-mentions-nil : (xs : List Mention) → xs ≡ xs ++ []
-mentions-nil xs = sym (append-nil xs)
-
 pub went_nowhere : (a : Ahead) → Fits a → Went a [] a
-went_nowhere a fits = record { added = []; mentions = mentions-nil a.mentions; asked = refl; frugal = omega arith; same_end = refl; fits = fits }
+went_nowhere a fits = record { added = []; mentions = sym (append-nil a.mentions); asked = refl; frugal = omega arith; same_end = refl; fits = fits }
 
 pub went_on : (a b c : Ahead) (first second : List Ask) → Went a first b → Went b second c → Went a (first ++ second) c
 went_on a b c first second v w = record {
   added = v.added ++ w.added;
   mentions = w.mentions ∙ ap (λ (ms : List Mention). ms ++ w.added) v.mentions ∙ append_assoc a.mentions v.added w.added;
-  asked = map-append v.added w.added ∙ (λ i. v.asked i ++ w.asked i);
+  asked = map-append ask_of v.added w.added ∙ (λ i. v.asked i ++ w.asked i);
   frugal = omega (arith, v.frugal, w.frugal, length-append v.added w.added);
   same_end = w.same_end ∙ v.same_end;
   fits = w.fits;
@@ -40,7 +33,8 @@ abbrev pub Answered : {X : Type 0} → (Here → X → Here → Type 0) → (X �
 Answered F asks a (Ok y) = Took F asks a y.0 y.1
 Answered F asks a (Err s) = Few a s
 
--- What is read stands there only where something is given, as that the strings are bytes.
+-- The reader is one of what stands by F, and of each value it names the types that are asked. That what it reads stands there rests on
+-- what is given, as that the strings are bytes; that it reads what stands there rests on nothing.
 pub record Reads {X : Type 0} (Given : Type 0) (p : Reader X) (F : Here → X → Here → Type 0) (asks : X → List Ask) : Type 0 where
   pub takes : Given → (a : Ahead) → Fits a → Answered F asks a (p a)
   pub again : (a : Ahead) (tail : List ℕ) (x : X) (after : Here) → F (seen_from a tail) x after → length tail ≤ length after.left → Again p a x tail after
@@ -118,7 +112,7 @@ ask_reads p F asks others r same = record {
     by a (Ok y) h = record { stands = h.stands; went = subst (λ ks. Went a ks y.1) (same y.0) h.went }
     by a (Err s) h = h
 
--- ---- steps, and what is made of them
+-- ---- steps, and what is made of them. T is what stands by all of them: made of the parts, and split into them again.
 
 module _ {X W : Type 0} (p : Reader X) (F : Here → X → Here → Type 0) (asks : X → List Ask) (make : X → W) (T : Here → W → Here → Type 0) (all : W → List Ask) where
   pub record One (a : Here) (w : W) (b : Here) : Type 0 where
