@@ -1,17 +1,17 @@
 -- The values of constants.
-use Rattle.std.specs.Prelude.{◌≡◌, ◌*◌, ℕ, ℤ, List, [], ◌∷◌, Bool, true, false, not, ◌||◌, ◌&&◌, ◌==◌, Result, Ok, Err, Option, Some, None, cond, nat_le}
+use Rattle.std.specs.Prelude.{◌*◌, ℕ, Bool, true, false, ◌==◌, Result, Ok, Err, Option, Some, None, cond}
 use Rattle.code_tables.specs.declared.predeclared.Basic.{Basic}
 use Rattle.code_tables.specs.declared.predeclared.Basic.TheVariants as b
 use Rattle.code_tables.specs.declared.constants.Const.{Const}
 use Rattle.code_tables.specs.declared.constants.Const.TheVariants.{Bool as truth, Int as whole, Str as text}
 use Rattle.wire_bytes.specs.declared.fault.ByteFault.{ByteFault}
 use Rattle.wire_bytes.specs.declared.fault.ByteFault.TheVariants as faults
-use Rattle.wire_bytes.specs.Reading.{place, ◌>>=◌, demand}
+use Rattle.wire_bytes.specs.Reading.{place, ◌>>=◌}
 use Rattle.wire_bytes.specs.Varint.{number_of, varint_at}
 use Rattle.wire_bytes.specs.Whole.{whole_at}
 use Rattle.type_terms.specs.Trees.{Tree, predeclared, named, alias, instance}
 use Rattle.decl_spelling.specs.Source.{Source, Basics}
-use Rattle.decl_spelling.specs.Reading.{Ahead, Reader, Stopped, plain, stop, ask, truth_at, text_at}
+use Rattle.decl_spelling.specs.Reading.{Ahead, Reader, Stopped, plain, ask, truth_at, text_at}
 
 -- the predeclared type to which a type comes down
 abbrev pub generic_basic : Basics → Tree → Option Basic

@@ -1,7 +1,6 @@
 -- A declaration, as it is read.
-use Rattle.std.specs.Prelude.{ℕ, List, [], ◌∷◌, ◌+◌, length, Bool, true, false, Result, Ok, Err, Option, Some, None, cond, not}
+use Rattle.std.specs.Prelude.{ℕ, List, [], length, Bool, true, false, Result, Ok, Err}
 use Rattle.code_tables.specs.declared.positions.Pos.{Pos}
-use Rattle.code_tables.specs.declared.constants.Const.{Const}
 use Rattle.code_tables.specs.declared.declarations.DeclTag.{DeclTag}
 use Rattle.code_tables.specs.declared.declarations.DeclTag.TheVariants.{Var, Func, GenericFunc, Const as ConstTag, Defined, GenericDefined, Alias, GenericAlias, TypeParameter}
 use Rattle.code_tables.specs.declared.predeclared.Basic.TheVariants.{Any as any_type}
@@ -14,8 +13,8 @@ use Rattle.decl_spelling.specs.declared.mention.Demand.{Demand}
 use Rattle.decl_spelling.specs.declared.mention.Demand.TheVariants.{Any as any, Parameter, Underlying, NoParameter, Interface}
 use Rattle.decl_spelling.specs.Source.{Source, Basics, window}
 use Rattle.decl_spelling.specs.Codes.{decl_tag_of}
-use Rattle.decl_spelling.specs.Reading.{Ahead, Reader, Stopped, start, stop, or_stop, plain, truth_at, text_at, pos_at, type_at, list_at, some_at}
-use Rattle.decl_spelling.specs.Descriptors.{Sig, param_at, sig_at}
+use Rattle.decl_spelling.specs.Reading.{Ahead, Reader, Stopped, start, or_stop, plain, truth_at, text_at, pos_at, type_at, list_at, some_at}
+use Rattle.decl_spelling.specs.Descriptors.{param_at, sig_at}
 use Rattle.decl_spelling.specs.Tables.{Table, type_named}
 use Rattle.decl_spelling.specs.Descent.{resolve_all, block_at}
 use Rattle.decl_spelling.specs.Constants.{basic_type, spelling_at, value_at}

@@ -1,11 +1,11 @@
 -- Reading the types that a block names. Each descriptor stands wholly before the block that names it, so offsets fall. It is
 -- read once, and shares no byte with another one that was read before.
-use Rattle.std.specs.Prelude.{ℕ, zero, suc, ◌+◌, ◌-◌, ◌<◌, ◌≤◌, List, [], ◌∷◌, Bool, true, false, not, ◌||◌, ◌==◌, Result, Ok, Err, Option, Some, None, cond, nat_lt, nat_le, is_some}
+use Rattle.std.specs.Prelude.{ℕ, zero, suc, ◌-◌, List, [], ◌∷◌, Bool, true, false, not, ◌||◌, ◌==◌, Result, Ok, Err, Option, Some, None, cond, nat_lt, nat_le, is_some}
 use Rattle.code_tables.specs.declared.predeclared.Basic.{Basic}
 use Rattle.code_tables.specs.Basic.{basic_code}
 use Rattle.wire_bytes.specs.declared.fault.ByteFault.{ByteFault}
 use Rattle.wire_bytes.specs.declared.fault.ByteFault.TheVariants as faults
-use Rattle.wire_bytes.specs.Reading.{Spot, place, ◌>>=◌, demand}
+use Rattle.wire_bytes.specs.Reading.{place, ◌>>=◌, demand}
 use Rattle.type_terms.specs.Shapes.{retype}
 use Rattle.type_terms.specs.Trees.{Tree, predeclared, named, parameter, alias, instance, union, interface, tree_of}
 use Rattle.decl_spelling.specs.declared.mention.Mention.{Mention}

@@ -1,17 +1,16 @@
 -- Descriptors of types: what stands in a block behind its tag. A type that stands in another one is its typeOff.
-use Rattle.std.specs.Prelude.{ℕ, ◌^◌, List, [], ◌∷◌, Bool, true, false, Result, Ok, Err, Option, Some, None, nat_lt}
+use Rattle.std.specs.Prelude.{ℕ, ◌^◌, List, [], ◌∷◌, Bool, false, Ok, nat_lt}
 use Rattle.code_tables.specs.declared.positions.Pos.{Pos}
 use Rattle.code_tables.specs.declared.descriptors.TypeTag.{TypeTag}
 use Rattle.code_tables.specs.declared.descriptors.TypeTag.TheVariants.{Defined, Pointer, Slice, Array, Chan, Map, Signature, Struct, Interface, TypeParameter, Instance, Union, Alias}
 use Rattle.wire_bytes.specs.declared.fault.ByteFault.TheVariants as faults
 use Rattle.wire_bytes.specs.Reading.{place, ◌>>=◌}
-use Rattle.type_terms.specs.declared.literals.Dir.{Dir}
 use Rattle.type_terms.specs.Trees.{Text}
 use Rattle.type_terms.specs.Shapes.{ParamOf, SigOf, OriginOf, FieldOf, MethodOf, TermOf, Shape, named_of, parameter_of, alias_of, pointer_of, slice_of, array_of, chan_of, map_of, func_of, struct_of, interface_of, instance_of, union_of}
 use Rattle.decl_spelling.specs.declared.mention.Demand.TheVariants.{Any, Base}
 use Rattle.decl_spelling.specs.Source.{Source}
 use Rattle.decl_spelling.specs.Codes.{type_tag_of, dir_of}
-use Rattle.decl_spelling.specs.Reading.{Ahead, Reader, stop, ask, or_stop, number_at, truth_at, text_at, path_at, pos_at, type_at, times, list_at, some_at}
+use Rattle.decl_spelling.specs.Reading.{Reader, ask, or_stop, number_at, truth_at, text_at, path_at, pos_at, type_at, list_at, some_at}
 
 -- what stands in a descriptor, with types by their typeOffs
 abbrev pub Flat : Type 0

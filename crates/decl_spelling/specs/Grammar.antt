@@ -1,5 +1,5 @@
 -- What stands in a block, apart from how it is read: from these bytes, with this place before, to those.
-use Rattle.std.specs.Prelude.{◌≡◌, ◌≢◌, ℕ, ◌^◌, ◌<◌, List, [], ◌∷◌, Bool, true, false, length, Option, Some, None}
+use Rattle.std.specs.Prelude.{◌≡◌, ℕ, ◌^◌, ◌<◌, List, [], ◌∷◌, Bool, false, length, Option, Some, None}
 use Rattle.code_tables.specs.declared.positions.Pos.{Pos}
 use Rattle.code_tables.specs.declared.descriptors.TypeTag.{TypeTag}
 use Rattle.code_tables.specs.declared.descriptors.TypeTag.TheVariants.{Defined, Pointer, Slice, Array, Chan, Map, Signature, Struct, Interface, TypeParameter, Instance, Union, Alias}

@@ -1,7 +1,7 @@
 -- Reading a block from left to right. A block is a declaration or the descriptor of a type. Its own bytes name the types that
 -- stand in it by their typeOffs, so they are read by themselves first; where they are at fault, the types that were named
 -- before are known.
-use Rattle.std.specs.Prelude.{ℕ, zero, suc, ◌==◌, List, [], ◌∷◌, ◌++◌, length, Bool, true, false, Result, Ok, Err, Option, Some, None, nat_lt}
+use Rattle.std.specs.Prelude.{ℕ, zero, suc, List, [], ◌∷◌, ◌++◌, Bool, true, false, Result, Ok, Err, Option, Some, None, nat_lt}
 use Rattle.code_tables.specs.declared.positions.Pos.{Pos}
 use Rattle.wire_bytes.specs.declared.fault.ByteFault.{ByteFault}
 use Rattle.wire_bytes.specs.declared.fault.ByteFault.TheVariants as faults

@@ -1,5 +1,5 @@
 -- What a reader of declarations is given of a file.
-use Rattle.std.specs.Prelude.{ℕ, ◌+◌, ◌-◌, Bool, List, [], ◌∷◌, take, drop, Option, Some, None, nat_eq, cond}
+use Rattle.std.specs.Prelude.{ℕ, ◌+◌, ◌-◌, List, [], take, drop, Option, Some, None, nat_eq, cond}
 use Rattle.std.specs.List.{list_any}
 use Rattle.std.specs.Cmp.Lexicographic.{pointwise}
 use Rattle.code_tables.specs.declared.predeclared.Basic.{Basic}

@@ -1,5 +1,5 @@
 -- Which bytes spell a declaration: blocks that explain each other.
-use Rattle.std.specs.Prelude.{◌≡◌, ◌≢◌, ℕ, ◌+◌, ◌*◌, ◌<◌, ◌≤◌, ◌⊎◌, List, [], ◌∷◌, Bool, true, false, IsTrue, length, drop, Option, Some, None, map}
+use Rattle.std.specs.Prelude.{◌≡◌, ◌≢◌, ℕ, ◌+◌, ◌*◌, ◌<◌, ◌≤◌, ◌⊎◌, List, [], ◌∷◌, Bool, true, false, IsTrue, length, drop, Some, map}
 use Rattle.std.specs.List.{Contains, All}
 use Rattle.code_tables.specs.declared.positions.Pos.{Pos}
 use Rattle.code_tables.specs.declared.constants.Const.{Const}
@@ -8,16 +8,14 @@ use Rattle.code_tables.specs.declared.declarations.DeclTag.{DeclTag}
 use Rattle.code_tables.specs.declared.declarations.DeclTag.TheVariants.{Var, Func, GenericFunc, Const as ConstTag, Defined, GenericDefined, Alias, GenericAlias, TypeParameter}
 use Rattle.code_tables.specs.DeclTag.{decl_tag_code}
 use Rattle.wire_bytes.specs.Begins.{Begins}
-use Rattle.wire_bytes.specs.Uvarint.{BeginsWith}
 use Rattle.wire_bytes.specs.Whole.{Whole}
 use Rattle.position_codec.specs.Place.{no_place}
-use Rattle.type_terms.specs.Shapes.{Shape, ParamOf, SigOf, instance_of, sig_map, shape_types, retype}
+use Rattle.type_terms.specs.Shapes.{Shape, SigOf, instance_of, sig_map, shape_types, retype}
 use Rattle.type_terms.specs.Trees.{Text, Tree, predeclared, tree_of}
 use Rattle.type_terms.specs.Declarations.{ReceiverOf, Form, var_of, function_of, constant_of, defined_of, renamed_of, type_parameter_of, receiver_map, form_map, form_types, Decl}
-use Rattle.decl_spelling.specs.declared.mention.Demand.TheVariants.{Parameter, Underlying, Base, NoParameter}
 use Rattle.decl_spelling.specs.Source.{Source, Basics}
 use Rattle.decl_spelling.specs.Codes.{basic_of, decl_tag_of}
-use Rattle.decl_spelling.specs.Descriptors.{Param, Sig}
+use Rattle.decl_spelling.specs.Descriptors.{Sig}
 use Rattle.decl_spelling.specs.Descent.{is_parameter, is_interface, is_underlying, is_generic}
 use Rattle.decl_spelling.specs.Constants.{Spelling, flag, offset, number, spelled, kind_of, kind_number, basic_type}
 use Rattle.decl_spelling.specs.Declarations.{has_methods, Receiver}
