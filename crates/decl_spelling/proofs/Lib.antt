@@ -10,3 +10,9 @@ pub mod DescriptorReaders
 pub mod HeadReaders
 pub mod ValueReaders
 pub mod FlatLaws
+pub mod Elementwise
+pub mod TableLaws
+pub mod NamedTypes
+pub mod Windows
+pub mod Retyped
+pub mod AskedTypes
