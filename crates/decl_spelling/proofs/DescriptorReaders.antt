@@ -185,7 +185,7 @@ union_reads src =
 
 -- ---- the whole descriptor
 
-flat_by_reads : (src : Source) (tag : TypeTag) → Reads (IsBytes src.strings) (flat_by src tag) (IsOfTag src tag) shape_asks
+pub flat_by_reads : (src : Source) (tag : TypeTag) → Reads (IsBytes src.strings) (flat_by src tag) (IsOfTag src tag) shape_asks
 flat_by_reads src Defined = qualified_reads src named_of Defined (λ name path. refl) (λ name path. refl) (λ a name path b w. w) (named_split src)
 flat_by_reads src Pointer = element_reads pointer_of (IsOfTag src Pointer) (λ type. refl) (λ a type b w. (refl, w)) (pointer_split src)
 flat_by_reads src Slice = element_reads slice_of (IsOfTag src Slice) (λ type. refl) (λ a type b w. (refl, w)) (slice_split src)

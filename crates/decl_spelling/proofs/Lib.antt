@@ -16,3 +16,6 @@ pub mod NamedTypes
 pub mod Windows
 pub mod Retyped
 pub mod AskedTypes
+pub mod TypesTaken
+pub mod NewBlocks
+pub mod BlocksTaken
