@@ -19,3 +19,5 @@ pub mod AskedTypes
 pub mod TypesTaken
 pub mod NewBlocks
 pub mod BlocksTaken
+pub mod TypesAgain
+pub mod BlocksAgain
