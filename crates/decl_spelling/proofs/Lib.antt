@@ -21,3 +21,7 @@ pub mod NewBlocks
 pub mod BlocksTaken
 pub mod TypesAgain
 pub mod BlocksAgain
+pub mod Forms
+pub mod DeclarationHeads
+pub mod DeclarationsTaken
+pub mod DeclarationsAgain
