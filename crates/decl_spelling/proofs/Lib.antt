@@ -25,3 +25,4 @@ pub mod Forms
 pub mod DeclarationHeads
 pub mod DeclarationsTaken
 pub mod DeclarationsAgain
+pub mod Decided

@@ -1,5 +1,5 @@
 -- A declaration, as it is read.
-use Rattle.std.specs.Prelude.{ℕ, List, [], length, Bool, true, false, Result, Ok, Err}
+use Rattle.std.specs.Prelude.{◌≡◌, ℕ, List, [], length, Bool, true, false, Result, Ok, Err}
 use Rattle.code_tables.specs.declared.positions.Pos.{Pos}
 use Rattle.code_tables.specs.declared.declarations.DeclTag.{DeclTag}
 use Rattle.code_tables.specs.declared.declarations.DeclTag.TheVariants.{Var, Func, GenericFunc, Const as ConstTag, Defined, GenericDefined, Alias, GenericAlias, TypeParameter}
@@ -187,3 +187,7 @@ decl_of src x = form_map (λ pos. pos) (λ text. text) (type_named src.version x
 -- the declaration that is spelled at an offset, or the first fault
 abbrev pub decl_at : Source → Basics → ℕ → Result Decl ByteFault
 decl_at src basics offset = read_at src basics offset >>= λ x. Ok (decl_of src x)
+
+-- the first fault of the bytes that stand at an offset
+abbrev pub FirstFault : Source → Basics → ℕ → ByteFault → Type 0
+FirstFault src basics offset fault = decl_at src basics offset ≡ Err fault

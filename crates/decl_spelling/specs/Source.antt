@@ -1,6 +1,6 @@
 -- What a reader of declarations is given of a file.
-use Rattle.std.specs.Prelude.{ℕ, ◌+◌, ◌-◌, List, [], take, drop, Option, Some, None, nat_eq, cond}
-use Rattle.std.specs.List.{list_any}
+use Rattle.std.specs.Prelude.{ℕ, ◌+◌, ◌-◌, ◌<◌, List, [], take, drop, Option, Some, None, nat_eq, cond}
+use Rattle.std.specs.List.{list_any, AllByRecursion}
 use Rattle.std.specs.Cmp.Lexicographic.{pointwise}
 use Rattle.code_tables.specs.declared.predeclared.Basic.{Basic}
 use Rattle.wire_bytes.specs.Reading.{Spot}
@@ -14,6 +14,10 @@ pub record Source : Type 0 where
   pub version : ℕ
   pub own : Option (List ℕ)
   pub paths : List (List ℕ)
+
+-- the sections are bytes
+abbrev pub HoldsBytes : Source → Type 0
+HoldsBytes src = AllByRecursion (λ b. b < 256) src.strings × AllByRecursion (λ b. b < 256) src.body
 
 -- the predeclared type to which the name of a defined type or an alias comes down: a package's path, and a name
 abbrev pub Basics : Type 0

@@ -2,6 +2,8 @@
 //! here, below the reader and the writer, which both cite them; docs/FORMAT.md has the rules in words.
 #![tactic(auto)]
 
+mod laws;
 mod mention;
 
+pub use laws::{declaration_or_fault, more_blocks, one_type, reading_decides};
 pub use mention::{Demand, Mention};

@@ -1,0 +1,5 @@
+use Rattle.decl_spelling.proofs.Decided.{one_type}
+use Rattle.decl_spelling.proofs.laws.one_type.Goals as goal
+
+pub returns : goal.returns
+returns c = one_type

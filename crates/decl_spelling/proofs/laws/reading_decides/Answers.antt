@@ -1,0 +1,8 @@
+use Rattle.decl_spelling.proofs.Decided.{decl_found, decl_again}
+use Rattle.decl_spelling.proofs.laws.reading_decides.Goals as goal
+
+pub returns-clause-found : goal.returns-clause-found
+returns-clause-found c = decl_found
+
+pub returns-clause-again : goal.returns-clause-again
+returns-clause-again c = decl_again
