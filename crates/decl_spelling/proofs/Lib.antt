@@ -26,3 +26,4 @@ pub mod DeclarationHeads
 pub mod DeclarationsTaken
 pub mod DeclarationsAgain
 pub mod Decided
+pub mod Lengths
