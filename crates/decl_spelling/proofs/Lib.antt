@@ -27,3 +27,4 @@ pub mod DeclarationsTaken
 pub mod DeclarationsAgain
 pub mod Decided
 pub mod Lengths
+pub mod WorkedBytes
