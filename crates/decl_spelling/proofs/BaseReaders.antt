@@ -1,5 +1,5 @@
 -- The readers of numbers, flags, texts, paths, positions and types.
-use Rattle.std.proofs.Common.{◌≡◌, ℕ, ◌<◌, ◌≤◌, List, [], ◌∷◌, ◌++◌, length, Option, Some, None, Result, Ok, Err, refl, sym, ap, subst, ◌∙◌, append_assoc, arith, length-append}
+use Rattle.std.proofs.Common.{◌≡◌, ℕ, ◌<◌, ◌≤◌, List, [], ◌∷◌, ◌++◌, length, Result, Ok, Err, refl, sym, ap, subst, ◌∙◌, append_assoc, arith, length-append}
 use Rattle.std.proofs.lemmas.List.{append-nil}
 use Rattle.code_tables.specs.declared.positions.Pos.{Pos}
 use Rattle.wire_bytes.specs.declared.fault.ByteFault.{ByteFault}
@@ -15,10 +15,12 @@ use Rattle.wire_bytes.proofs.Many.{Takes}
 use Rattle.wire_bytes.proofs.Cursors.{uvarint_at_takes, uvarint_at_again}
 use Rattle.position_codec.specs.Place.{Named, pos_of, moved_on}
 use Rattle.position_codec.specs.Position.{position_at}
+use Rattle.position_codec.specs.Paths.{IsPathAt, path_in}
 use Rattle.position_codec.proofs.Readings.{position_again}
+use Rattle.position_codec.proofs.PathNames.{path_again, path_takes}
 use Rattle.decl_spelling.specs.declared.mention.Demand.{Demand}
-use Rattle.decl_spelling.specs.Source.{Source, path_of}
-use Rattle.decl_spelling.specs.Reading.{Ahead, Stopped, onto, plain, placed, number_at, truth_at, text_at, path_by, path_at, pos_at, type_at}
+use Rattle.decl_spelling.specs.Source.{Source}
+use Rattle.decl_spelling.specs.Reading.{Ahead, Stopped, onto, plain, placed, number_at, truth_at, text_at, path_at, pos_at, type_at}
 use Rattle.decl_spelling.specs.Grammar.{Here, IsNumber, IsTruth, IsText, IsPath, IsPos}
 use Rattle.decl_spelling.proofs.Took.{unplaced, Fits}
 use Rattle.decl_spelling.proofs.Readers.{Answered, Reads, nothing, give, give_reads, judged_reads}
@@ -91,19 +93,13 @@ text_reads src = judged_reads number_at (λ a offset. faults.Range (place a.spot
     (offset, subst (IsNumber a offset) (sym stays.1) number, subst (Text src.strings offset) (sym stays.0) (text_takes src.strings offset text bytes there)))
     (λ a text b stands. record { x = stands.0; v = text; next = b; first = stands.1; judged = text_again src.strings stands.0 text stands.2; second = (refl, refl) })
 
-path_by_takes : (src : Source) (text : Option (List ℕ)) (path : List ℕ) → path_by src text ≡ Some path → (t : List ℕ) × (text ≡ Some t) × (path_of src t ≡ Some path)
-path_by_takes src (Some t) path e = (t, refl, e)
-path_by_takes src None path e = absurd cc
-
 pub path_reads : (src : Source) → Reads (IsBytes src.strings) (path_at src) (IsPath src) nothing
 unfolding path_at
-path_reads src = judged_reads number_at (λ a offset. faults.Range (place a.spot) offset) (λ offset. path_by src (text_in src.strings offset)) give IsNumber (λ path a x b. (x ≡ path) × (b ≡ a)) nothing (IsPath src)
+path_reads src = judged_reads number_at (λ a offset. faults.Range (place a.spot) offset) (path_in src.strings src.own src.paths) give IsNumber (λ path a x b. (x ≡ path) × (b ≡ a)) nothing (IsPath src)
     number_reads (give_reads (IsBytes src.strings))
     (λ bytes a offset b path x c number there stays.
-    let text = path_by_takes src (text_in src.strings offset) path there in
-    (text.0, (offset, subst (IsNumber a offset) (sym stays.1) number, text_takes src.strings offset text.0 bytes text.1), text.2 ∙ ap (λ (p : List ℕ). Some p) (sym stays.0)))
-    (λ a path b stands.
-    record { x = stands.1.0; v = path; next = b; first = stands.1.1; judged = ap (path_by src) (text_again src.strings stands.1.0 stands.0 stands.1.2) ∙ stands.2; second = (refl, refl) })
+    (offset, subst (IsNumber a offset) (sym stays.1) number, subst (IsPathAt src.strings src.own src.paths offset) (sym stays.0) (path_takes src.strings src.own src.paths offset path bytes there)))
+    (λ a path b stands. record { x = stands.0; v = path; next = b; first = stands.1; judged = path_again src.strings src.own src.paths stands.0 path stands.2; second = (refl, refl) })
 
 -- ---- positions
 

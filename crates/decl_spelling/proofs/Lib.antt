@@ -28,3 +28,5 @@ pub mod DeclarationsAgain
 pub mod Decided
 pub mod Lengths
 pub mod WorkedBytes
+pub mod LeadsTaken
+pub mod LeadsAgain

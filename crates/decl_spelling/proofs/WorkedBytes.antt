@@ -24,7 +24,7 @@ abbrev strings : List ℕ
 strings = 4 ∷ 112 ∷ 46 ∷ 103 ∷ 111 ∷ 0 ∷ []
 
 abbrev in_version : ℕ → List ℕ → Source
-in_version version body = record { strings = strings; body = body; body_at = 14; version = version; own = Some (112 ∷ []); paths = [] }
+in_version version body = record { strings = strings; body = body; body_at = 14; version = version; own = 112 ∷ []; paths = [] ∷ [] }
 
 abbrev no_names : Basics
 no_names path name = None

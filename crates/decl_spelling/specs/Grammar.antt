@@ -10,10 +10,11 @@ use Rattle.wire_bytes.specs.Varint.{Flag}
 use Rattle.wire_bytes.specs.Text.{Text}
 use Rattle.position_codec.specs.Place.{Place, Named, pos_of}
 use Rattle.position_codec.specs.Position.{Position}
+use Rattle.position_codec.specs.Paths.{IsPathAt}
 use Rattle.type_terms.specs.declared.literals.Dir.{Dir}
 use Rattle.type_terms.specs.declared.literals.Dir.TheVariants.{Receive, Send, Both}
 use Rattle.type_terms.specs.Shapes.{FieldOf, MethodOf, TermOf, predeclared_of, named_of, parameter_of, alias_of, pointer_of, slice_of, array_of, chan_of, map_of, func_of, struct_of, interface_of, instance_of, union_of}
-use Rattle.decl_spelling.specs.Source.{Source, path_of}
+use Rattle.decl_spelling.specs.Source.{Source}
 use Rattle.decl_spelling.specs.Codes.{type_tag_of}
 use Rattle.decl_spelling.specs.Descriptors.{Flat, Param, Sig, no_origin}
 
@@ -34,7 +35,7 @@ IsText src a text b = (offset : ℕ) × IsNumber a offset b × Text src.strings 
 
 -- the offset of the text that stands for a package's path
 abbrev pub IsPath : Source → Here → List ℕ → Here → Type 0
-IsPath src a path b = (text : List ℕ) × IsText src a text b × (path_of src text ≡ Some path)
+IsPath src a path b = (offset : ℕ) × IsNumber a offset b × IsPathAt src.strings src.own src.paths offset path
 
 abbrev pub IsPos : Source → Here → Pos → Here → Type 0
 IsPos src a pos b = (now : Named) × Begins (Position src.strings a.before) a.left now b.left × (b.before ≡ now.place) × (pos ≡ pos_of now.place)

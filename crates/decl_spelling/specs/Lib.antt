@@ -8,3 +8,4 @@ pub mod Constants
 pub mod Declarations
 pub mod Grammar
 pub mod Spelling
+pub mod Heads

@@ -11,9 +11,10 @@ use Rattle.wire_bytes.specs.Varint.{flag_at}
 use Rattle.wire_bytes.specs.Text.{text_in}
 use Rattle.position_codec.specs.Place.{Named, no_place, pos_of, moved_on}
 use Rattle.position_codec.specs.Position.{position_at}
+use Rattle.position_codec.specs.Paths.{path_in}
 use Rattle.decl_spelling.specs.declared.mention.Mention.{Mention}
 use Rattle.decl_spelling.specs.declared.mention.Demand.{Demand}
-use Rattle.decl_spelling.specs.Source.{Source, path_of}
+use Rattle.decl_spelling.specs.Source.{Source}
 
 -- what is left of a block, the place before its next position, and the types that it has named so far
 pub record Ahead : Type 0 where
@@ -68,15 +69,11 @@ text_at src a = do
   text ← or_stop a (faults.Range (place a.spot) offset.0) (text_in src.strings offset.0)
   Ok (text, offset.1)
 
-abbrev pub path_by : Source → Option (List ℕ) → Option (List ℕ)
-path_by src (Some text) = path_of src text
-path_by src None = None
-
 -- the path of a package, which is the file's own or one that its index lists
 unfoldable pub path_at : Source → Reader (List ℕ)
 path_at src a = do
   offset ← number_at a
-  path ← or_stop a (faults.Range (place a.spot) offset.0) (path_by src (text_in src.strings offset.0))
+  path ← or_stop a (faults.Range (place a.spot) offset.0) (path_in src.strings src.own src.paths offset.0)
   Ok (path, offset.1)
 
 abbrev pub placed : Ahead → Result (Named × Spot) ByteFault → Result (Pos × Ahead) Stopped

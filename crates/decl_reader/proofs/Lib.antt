@@ -1,0 +1,4 @@
+pub mod Windows
+pub mod Lists
+pub mod Passing
+pub mod Found

@@ -1,0 +1,14 @@
+use Rattle.std.proofs.lemmas.Result.{err_from_is_err_and}
+use Rattle.decl_reader.proofs.Lists.{goes_on, ends, is_done}
+use Rattle.decl_reader.proofs.flat.types.read_embedded_times.Goals as goal
+
+pub returns-in_err-ty : goal.returns-in_err-ty
+returns-in_err-ty c =
+    let p = err_from_is_err_and c.from_residual.result c.from_residual.ensures.1 in
+    rw (p.1, p.2) (ends c.in_err-ty.field-0.0 _ _ c.args.count c.loop.counter _ _ _ c.loop-test.true c.in_err-ty.ensures c.loop.invariant)
+
+pub loop-preserved : goal.loop-preserved
+loop-preserved c = rw c.in_ok-push.ensures.items (goes_on _ c.loop.types.items c.args.count c.loop.counter _ c.in_ok-ty.ty _ _ c.loop-test.true c.in_ok-ty.ensures c.loop.invariant)
+
+pub returns : goal.returns
+returns c = is_done _ _ c.args.count c.loop.counter _ _ c.loop-test.false c.loop.invariant

@@ -1,0 +1,5 @@
+use Rattle.decl_reader.proofs.Found.{one_lead}
+use Rattle.decl_reader.proofs.heads.one_head.Goals as goal
+
+pub returns : goal.returns
+returns c = one_lead

@@ -1,0 +1,52 @@
+-- What the values that are read stand for: the shapes of descriptors, with types by their typeOffs.
+use Rattle.std.specs.Prelude.{ℕ, map}
+use Rattle.code_tables.specs.declared.positions.Pos.{Pos}
+use Rattle.type_terms.specs.Trees.{Text}
+use Rattle.type_terms.specs.Shapes.{FieldOf, MethodOf, TermOf, named_of, parameter_of, alias_of, pointer_of, slice_of, array_of, chan_of, map_of, func_of, struct_of, interface_of, instance_of, union_of}
+use Rattle.decl_spelling.specs.Descriptors.{Flat as Shape, Param as ParamShape, Sig, no_origin}
+use Rattle.decl_reader.specs.declared.flat.params.Param.{Param}
+use Rattle.decl_reader.specs.declared.flat.params.Signature.{Signature}
+use Rattle.decl_reader.specs.declared.flat.members.FieldParts.{FieldParts}
+use Rattle.decl_reader.specs.declared.flat.members.MethodParts.{MethodParts}
+use Rattle.decl_reader.specs.declared.flat.members.TermParts.{TermParts}
+use Rattle.decl_reader.specs.declared.flat.descriptors.Flat.{Flat}
+use Rattle.decl_reader.specs.declared.flat.descriptors.Flat.TheVariants.{Defined, TypeParameter, Alias, Pointer, Slice, Array, Chan, Map, Func, Struct, Interface, Instance, Union}
+
+abbrev pub FieldShape : Type 0
+FieldShape = FieldOf Pos Text Text ℕ
+
+abbrev pub MethodShape : Type 0
+MethodShape = MethodOf Pos Text Text ℕ
+
+abbrev pub TermShape : Type 0
+TermShape = TermOf ℕ
+
+abbrev pub param_shape : Param → ParamShape
+param_shape x = record { pos = x.pos; name = x.name; type = x.ty }
+
+abbrev pub sig_shape : Signature → Sig
+sig_shape x = record { params = map param_shape x.params.items; results = map param_shape x.results.items; variadic = x.variadic }
+
+abbrev pub field_shape : FieldParts → FieldShape
+field_shape x = record { origin = no_origin; pos = x.pos; name = x.name; type = x.ty; embedded = x.embedded; tag = x.tag }
+
+abbrev pub method_shape : MethodParts → MethodShape
+method_shape x = record { origin = no_origin; pos = x.pos; name = x.name; sig = sig_shape x.signature }
+
+abbrev pub term_shape : TermParts → TermShape
+term_shape x = record { tilde = x.tilde; type = x.ty }
+
+abbrev pub flat_shape : Flat → Shape
+flat_shape (Defined q) = named_of q.name q.path
+flat_shape (TypeParameter q) = parameter_of q.name q.path
+flat_shape (Alias q) = alias_of q.name q.path
+flat_shape (Pointer ty) = pointer_of ty
+flat_shape (Slice ty) = slice_of ty
+flat_shape (Array len ty) = array_of len ty
+flat_shape (Chan dir ty) = chan_of dir ty
+flat_shape (Map key ty) = map_of key ty
+flat_shape (Func home signature) = func_of home (sig_shape signature)
+flat_shape (Struct home fields) = struct_of home (map field_shape fields.items)
+flat_shape (Interface home embedded methods) = interface_of home embedded.items (map method_shape methods.items)
+flat_shape (Instance base arguments) = instance_of base arguments.items
+flat_shape (Union terms) = union_of (map term_shape terms.items)

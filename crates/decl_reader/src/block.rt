@@ -1,0 +1,112 @@
+//! The bytes of a block, read one thing at a time.
+
+ghost use Rattle.std.specs.Prelude.{◌≡◌, ◌≤◌};
+ghost use Rattle.position_codec.specs.FileParts.{IsOfFile};
+ghost use Rattle.decl_spelling.specs.Source.{window};
+ghost use Rattle.decl_spelling.specs.Reading.{start, number_at, truth_at, text_at, path_at, pos_at, type_at};
+ghost use Rattle.decl_reader.specs.Calls.{Gives, ahead_of, source_of};
+
+use crate::fault::ReadFault;
+use code_tables::{Bytes, Pos};
+use decl_spelling::{Demand, Mention};
+use position_codec::{Parts, PrevPos, read_full};
+use std::alloc::Global;
+use wire_bytes::{ByteFault, Cursor, text_at};
+
+/// A block that is being read: what is left of it, the position before its next one, and the types that it has named so far.
+#[derive(Drop)]
+pub(crate) struct Block<'a> {
+    pub(crate) cursor: Cursor<'a>,
+    pub(crate) before: PrevPos,
+    pub(crate) mentions: Vec<Mention>,
+}
+
+impl<'a> Block<'a> {
+    /// The bytes of the data section from an offset up to another, as a block that begins there. It takes no memory.
+    pub(crate) fn new(alloc: Global, parts: &Parts<'a>, from: u64, to: u64) -> Block<'a>
+        requires sections { IsOfFile parts.now }
+        requires order { from ≤ to }
+        requires inside { to ≤ parts.now.body_len }
+        ensures { ahead_of result ≡ start (window (source_of parts.now) from to) }
+    {
+        let at = parts.body_at as usize;
+        Block {
+            cursor: Cursor::new(parts.file, at + from as usize, at + to as usize),
+            before: PrevPos::start(alloc),
+            mentions: Vec::new(alloc),
+        }
+    }
+}
+
+/// The next number.
+pub(crate) fn read_number(block: &mut Block<'_>) -> Result<u64, ReadFault>
+    ensures { Gives (λ n. n) result (ahead_of block.new) (number_at (ahead_of block.old)) }
+{
+    Ok(block.cursor.uvarint()?)
+}
+
+/// The next flag.
+pub(crate) fn read_truth(block: &mut Block<'_>) -> Result<bool, ReadFault>
+    ensures { Gives (λ b. b) result (ahead_of block.new) (truth_at (ahead_of block.old)) }
+{
+    Ok(block.cursor.flag()?)
+}
+
+/// The text of the string section at the offset that comes next, copied.
+#[tactic(auto, unfolding(decl_spelling::specs::Reading::text_at))]
+pub(crate) fn read_text(
+    alloc: Global,
+    parts: &Parts<'_>,
+    block: &mut Block<'_>,
+) -> Result<Bytes, ReadFault>
+    requires { IsOfFile parts.now }
+    ensures { Gives (λ t. t) result (ahead_of block.new) (text_at (source_of parts.now) (ahead_of block.old)) }
+{
+    let at = block.cursor.place() as u64;
+    let offset = read_number(block)?;
+    match text_at(parts.strings(), offset) {
+        Some(text) => Ok(Bytes::from_slice(alloc, text)?),
+        None => Err(ReadFault::Bytes(ByteFault::Range { at, value: offset })),
+    }
+}
+
+/// The path of a package, by the offset of its text that comes next, copied.
+#[tactic(auto, unfolding(decl_spelling::specs::Reading::path_at))]
+pub(crate) fn read_path(
+    alloc: Global,
+    parts: &Parts<'_>,
+    block: &mut Block<'_>,
+) -> Result<Bytes, ReadFault>
+    requires { IsOfFile parts.now }
+    ensures { Gives (λ t. t) result (ahead_of block.new) (path_at (source_of parts.now) (ahead_of block.old)) }
+{
+    let at = block.cursor.place() as u64;
+    let offset = read_number(block)?;
+    match parts.path_at(offset) {
+        Some(path) => Ok(Bytes::from_slice(alloc, path)?),
+        None => Err(ReadFault::Bytes(ByteFault::Range { at, value: offset })),
+    }
+}
+
+/// The next position.
+pub(crate) fn read_pos(
+    alloc: Global,
+    parts: &Parts<'_>,
+    block: &mut Block<'_>,
+) -> Result<Pos, ReadFault>
+    requires { IsOfFile parts.now }
+    ensures { Gives (λ p. p) result (ahead_of block.new) (pos_at (source_of parts.now) (ahead_of block.old)) }
+{
+    Ok(read_full(alloc, &mut block.cursor, parts, &mut block.before)?)
+}
+
+/// The number of a type, which is noted with what is asked of it.
+#[tactic(auto, unfolding(decl_spelling::specs::Reading::type_at))]
+pub(crate) fn read_type(block: &mut Block<'_>, asked: Demand) -> Result<u64, ReadFault>
+    ensures { Gives (λ n. n) result (ahead_of block.new) (type_at asked (ahead_of block.old)) }
+{
+    let at = block.cursor.place() as u64;
+    let value = read_number(block)?;
+    block.mentions.push(Mention { at, value, asked })?;
+    Ok(value)
+}

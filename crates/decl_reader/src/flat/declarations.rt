@@ -1,0 +1,327 @@
+//! Declarations up to where their types decide what follows, with types as numbers.
+
+ghost use Rattle.std.specs.Prelude.{◌≡◌, map};
+ghost use Rattle.position_codec.specs.FileParts.{IsOfFile};
+ghost use Rattle.decl_spelling.specs.Reading.{list_at};
+ghost use Rattle.decl_spelling.specs.Declarations.{var_at, func_decl_at, generic_func_at, constant_at, defined_at, generic_defined_at, alias_at, generic_alias_at, parameter_at, constraint_demand, head_by, head_at, receiver_at};
+ghost use Rattle.decl_reader.specs.Calls.{Gives, ahead_of, source_of};
+ghost use Rattle.decl_reader.specs.Forms.{head_shape, receiver_shape};
+
+use crate::block::{Block, read_pos, read_text, read_truth, read_type};
+use crate::codes::decl_tag_of;
+use crate::fault::ReadFault;
+use crate::flat::lists::{Listed, read_list};
+use crate::flat::params::{Param, Signature, read_signature};
+use crate::flat::types::read_types;
+use code_tables::{Bytes, Const, DeclTag, Pos};
+use decl_spelling::Demand;
+use position_codec::Parts;
+use std::alloc::Global;
+use wire_bytes::ByteFault;
+
+/// A method of a defined type, with its receiver.
+#[derive(Debug, Drop)]
+pub(crate) struct ReceiverParts {
+    pub(crate) pos: Pos,
+    pub(crate) name: Bytes,
+    pub(crate) recv: Param,
+    pub(crate) signature: Signature,
+}
+
+/// A declaration. Its list of type parameters is empty where it has none.
+#[derive(Debug, Drop)]
+pub(crate) enum DeclParts {
+    Var {
+        pos: Pos,
+        ty: u64,
+    },
+    Func {
+        pos: Pos,
+        tparams: Vec<u64>,
+        signature: Signature,
+    },
+    Constant {
+        pos: Pos,
+        ty: u64,
+        value: Const,
+    },
+    Defined {
+        pos: Pos,
+        tparams: Vec<u64>,
+        underlying: u64,
+        methods: Vec<ReceiverParts>,
+    },
+    Alias {
+        pos: Pos,
+        tparams: Vec<u64>,
+        ty: u64,
+    },
+    Parameter {
+        pos: Pos,
+        implicit: bool,
+        constraint: u64,
+    },
+}
+
+/// A declaration up to where its types decide what follows.
+#[derive(Debug, Drop)]
+pub(crate) enum DeclHead {
+    /// Nothing follows.
+    Whole(DeclParts),
+    /// The methods of a defined type follow, if its underlying type isn't an interface.
+    Defined {
+        pos: Pos,
+        tparams: Vec<u64>,
+        underlying: u64,
+    },
+    /// The value of a constant follows, by its type, whose number stands at `at` in the file.
+    Constant {
+        pos: Pos,
+        ty: u64,
+        at: u64,
+    },
+}
+
+/// The letter of its kind, and a declaration.
+#[tactic(auto, unfolding(decl_spelling::specs::Declarations::head_at))]
+pub(crate) fn read_declaration_head(
+    alloc: Global,
+    parts: &Parts<'_>,
+    block: &mut Block<'_>,
+) -> Result<DeclHead, ReadFault>
+    requires { IsOfFile parts.now }
+    ensures { Gives head_shape result (ahead_of block.new) (head_at (source_of parts.now) (ahead_of block.old)) }
+{
+    let at = block.cursor.place() as u64;
+    let letter = block.cursor.byte()?;
+    match decl_tag_of(parts.version, letter) {
+        Some(tag) => read_parts(alloc, parts, tag, block),
+        None => Err(ReadFault::Bytes(ByteFault::Tag {
+            at,
+            value: u64::from(letter),
+        })),
+    }
+}
+
+/// The parts of a declaration of a kind.
+fn read_parts(
+    alloc: Global,
+    parts: &Parts<'_>,
+    tag: DeclTag,
+    block: &mut Block<'_>,
+) -> Result<DeclHead, ReadFault>
+    requires { IsOfFile parts.now }
+    ensures { Gives head_shape result (ahead_of block.new) (head_by (source_of parts.now) tag (ahead_of block.old)) }
+{
+    match tag {
+        DeclTag::Var => read_var(alloc, parts, block),
+        DeclTag::Func => read_func(alloc, parts, block),
+        DeclTag::GenericFunc => read_generic_func(alloc, parts, block),
+        DeclTag::Const => read_constant(alloc, parts, block),
+        DeclTag::Defined => read_defined(alloc, parts, block),
+        DeclTag::GenericDefined => read_generic_defined(alloc, parts, block),
+        DeclTag::Alias => read_alias(alloc, parts, block),
+        DeclTag::GenericAlias => read_generic_alias(alloc, parts, block),
+        DeclTag::TypeParameter => read_type_parameter(alloc, parts, block),
+    }
+}
+
+#[tactic(auto, unfolding(decl_spelling::specs::Declarations::var_at))]
+fn read_var(alloc: Global, parts: &Parts<'_>, block: &mut Block<'_>) -> Result<DeclHead, ReadFault>
+    requires { IsOfFile parts.now }
+    ensures { Gives head_shape result (ahead_of block.new) (var_at (source_of parts.now) (ahead_of block.old)) }
+{
+    let pos = read_pos(alloc, parts, block)?;
+    let ty = read_type(block, Demand::Any)?;
+    Ok(DeclHead::Whole(DeclParts::Var { pos, ty }))
+}
+
+#[tactic(auto, unfolding(decl_spelling::specs::Declarations::func_decl_at))]
+fn read_func(alloc: Global, parts: &Parts<'_>, block: &mut Block<'_>) -> Result<DeclHead, ReadFault>
+    requires { IsOfFile parts.now }
+    ensures { Gives head_shape result (ahead_of block.new) (func_decl_at (source_of parts.now) (ahead_of block.old)) }
+{
+    let pos = read_pos(alloc, parts, block)?;
+    let signature = read_signature(alloc, parts, block)?;
+    Ok(DeclHead::Whole(DeclParts::Func {
+        pos,
+        tparams: Vec::new(alloc),
+        signature,
+    }))
+}
+
+#[tactic(auto, unfolding(decl_spelling::specs::Declarations::generic_func_at))]
+fn read_generic_func(
+    alloc: Global,
+    parts: &Parts<'_>,
+    block: &mut Block<'_>,
+) -> Result<DeclHead, ReadFault>
+    requires { IsOfFile parts.now }
+    ensures { Gives head_shape result (ahead_of block.new) (generic_func_at (source_of parts.now) (ahead_of block.old)) }
+{
+    let pos = read_pos(alloc, parts, block)?;
+    let tparams = read_types(alloc, Demand::Parameter, block)?;
+    let signature = read_signature(alloc, parts, block)?;
+    Ok(DeclHead::Whole(DeclParts::Func {
+        pos,
+        tparams,
+        signature,
+    }))
+}
+
+#[tactic(auto, unfolding(decl_spelling::specs::Declarations::constant_at))]
+fn read_constant(
+    alloc: Global,
+    parts: &Parts<'_>,
+    block: &mut Block<'_>,
+) -> Result<DeclHead, ReadFault>
+    requires { IsOfFile parts.now }
+    ensures { Gives head_shape result (ahead_of block.new) (constant_at (source_of parts.now) (ahead_of block.old)) }
+{
+    let pos = read_pos(alloc, parts, block)?;
+    let at = block.cursor.place() as u64;
+    let ty = read_type(block, Demand::Any)?;
+    Ok(DeclHead::Constant { pos, ty, at })
+}
+
+#[tactic(auto, unfolding(decl_spelling::specs::Declarations::defined_at))]
+fn read_defined(
+    alloc: Global,
+    parts: &Parts<'_>,
+    block: &mut Block<'_>,
+) -> Result<DeclHead, ReadFault>
+    requires { IsOfFile parts.now }
+    ensures { Gives head_shape result (ahead_of block.new) (defined_at (source_of parts.now) (ahead_of block.old)) }
+{
+    let pos = read_pos(alloc, parts, block)?;
+    let underlying = read_type(block, Demand::Underlying)?;
+    Ok(DeclHead::Defined {
+        pos,
+        tparams: Vec::new(alloc),
+        underlying,
+    })
+}
+
+#[tactic(auto, unfolding(decl_spelling::specs::Declarations::generic_defined_at))]
+fn read_generic_defined(
+    alloc: Global,
+    parts: &Parts<'_>,
+    block: &mut Block<'_>,
+) -> Result<DeclHead, ReadFault>
+    requires { IsOfFile parts.now }
+    ensures { Gives head_shape result (ahead_of block.new) (generic_defined_at (source_of parts.now) (ahead_of block.old)) }
+{
+    let pos = read_pos(alloc, parts, block)?;
+    let tparams = read_types(alloc, Demand::Parameter, block)?;
+    let underlying = read_type(block, Demand::Underlying)?;
+    Ok(DeclHead::Defined {
+        pos,
+        tparams,
+        underlying,
+    })
+}
+
+#[tactic(auto, unfolding(decl_spelling::specs::Declarations::alias_at))]
+fn read_alias(
+    alloc: Global,
+    parts: &Parts<'_>,
+    block: &mut Block<'_>,
+) -> Result<DeclHead, ReadFault>
+    requires { IsOfFile parts.now }
+    ensures { Gives head_shape result (ahead_of block.new) (alias_at (source_of parts.now) (ahead_of block.old)) }
+{
+    let pos = read_pos(alloc, parts, block)?;
+    let ty = read_type(block, Demand::Any)?;
+    Ok(DeclHead::Whole(DeclParts::Alias {
+        pos,
+        tparams: Vec::new(alloc),
+        ty,
+    }))
+}
+
+#[tactic(auto, unfolding(decl_spelling::specs::Declarations::generic_alias_at))]
+fn read_generic_alias(
+    alloc: Global,
+    parts: &Parts<'_>,
+    block: &mut Block<'_>,
+) -> Result<DeclHead, ReadFault>
+    requires { IsOfFile parts.now }
+    ensures { Gives head_shape result (ahead_of block.new) (generic_alias_at (source_of parts.now) (ahead_of block.old)) }
+{
+    let pos = read_pos(alloc, parts, block)?;
+    let tparams = read_types(alloc, Demand::Parameter, block)?;
+    let ty = read_type(block, Demand::NoParameter)?;
+    Ok(DeclHead::Whole(DeclParts::Alias { pos, tparams, ty }))
+}
+
+/// Where the flag says that the constraint was written without `interface`, it is an interface.
+#[tactic(auto, unfolding(decl_spelling::specs::Declarations::parameter_at))]
+fn read_type_parameter(
+    alloc: Global,
+    parts: &Parts<'_>,
+    block: &mut Block<'_>,
+) -> Result<DeclHead, ReadFault>
+    requires { IsOfFile parts.now }
+    ensures { Gives head_shape result (ahead_of block.new) (parameter_at (source_of parts.now) (ahead_of block.old)) }
+{
+    let pos = read_pos(alloc, parts, block)?;
+    let flag = block.cursor.place() as u64;
+    let implicit = read_truth(block)?;
+    let constraint = read_type(block, constraint_demand(implicit, flag))?;
+    Ok(DeclHead::Whole(DeclParts::Parameter {
+        pos,
+        implicit,
+        constraint,
+    }))
+}
+
+fn constraint_demand(implicit: bool, flag: u64) -> Demand
+    ensures { result ≡ constraint_demand implicit flag }
+{
+    if implicit {
+        Demand::Interface { flag }
+    } else {
+        Demand::Any
+    }
+}
+
+impl Listed for ReceiverParts {
+    ghost use Rattle.decl_spelling.specs.Declarations.{Receiver, receiver_at};
+    ghost use Rattle.decl_reader.specs.Forms.{receiver_shape};
+
+    ghost Shape = { Receiver };
+
+    ghost shape = { receiver_shape };
+
+    ghost reading = { receiver_at };
+
+    #[tactic(auto, unfolding(decl_spelling::specs::Declarations::receiver_at))]
+    fn read(
+        alloc: Global,
+        parts: &Parts<'_>,
+        block: &mut Block<'_>,
+    ) -> Result<ReceiverParts, ReadFault> {
+        let pos = read_pos(alloc, parts, block)?;
+        let name = read_text(alloc, parts, block)?;
+        let recv = Param::read(alloc, parts, block)?;
+        let signature = read_signature(alloc, parts, block)?;
+        Ok(ReceiverParts {
+            pos,
+            name,
+            recv,
+            signature,
+        })
+    }
+}
+
+/// The methods of a defined type, after their count.
+pub(crate) fn read_receivers(
+    alloc: Global,
+    parts: &Parts<'_>,
+    block: &mut Block<'_>,
+) -> Result<Vec<ReceiverParts>, ReadFault>
+    requires { IsOfFile parts.now }
+    ensures { Gives (λ v. map receiver_shape v.items) result (ahead_of block.new) (list_at (receiver_at (source_of parts.now)) (ahead_of block.old)) }
+{
+    read_list(alloc, parts, block)
+}

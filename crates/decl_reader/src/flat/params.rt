@@ -1,0 +1,80 @@
+//! Parameters and signatures, with types as numbers.
+
+ghost use Rattle.std.specs.Prelude.{◌≡◌, map};
+ghost use Rattle.position_codec.specs.FileParts.{IsOfFile};
+ghost use Rattle.decl_spelling.specs.Descriptors.{variadic_at, sig_at};
+ghost use Rattle.decl_reader.specs.Calls.{Gives, ahead_of, source_of};
+ghost use Rattle.decl_reader.specs.Shapes.{param_shape, sig_shape};
+
+use crate::block::{Block, read_pos, read_text, read_truth, read_type};
+use crate::fault::ReadFault;
+use crate::flat::lists::{Listed, read_list};
+use code_tables::{Bytes, Pos};
+use decl_spelling::Demand;
+use position_codec::Parts;
+use std::alloc::Global;
+
+/// A parameter, a result or a receiver.
+#[derive(Debug, Drop)]
+pub(crate) struct Param {
+    pub(crate) pos: Pos,
+    pub(crate) name: Bytes,
+    pub(crate) ty: u64,
+}
+
+/// The parameters and results of a function or method.
+#[derive(Debug, Drop)]
+pub(crate) struct Signature {
+    pub(crate) params: Vec<Param>,
+    pub(crate) results: Vec<Param>,
+    pub(crate) variadic: bool,
+}
+
+impl Listed for Param {
+    ghost use Rattle.decl_spelling.specs.Descriptors.{Param as Shape, param_at};
+    ghost use Rattle.decl_reader.specs.Shapes.{param_shape};
+
+    ghost Shape = { Shape };
+
+    ghost shape = { param_shape };
+
+    ghost reading = { param_at };
+
+    #[tactic(auto, unfolding(decl_spelling::specs::Descriptors::param_at))]
+    fn read(alloc: Global, parts: &Parts<'_>, block: &mut Block<'_>) -> Result<Param, ReadFault> {
+        let pos = read_pos(alloc, parts, block)?;
+        let name = read_text(alloc, parts, block)?;
+        let ty = read_type(block, Demand::Any)?;
+        Ok(Param { pos, name, ty })
+    }
+}
+
+/// The flag stands only where there is a parameter.
+fn read_variadic(params: &[Param], block: &mut Block<'_>) -> Result<bool, ReadFault>
+    ensures { Gives (λ b. b) result (ahead_of block.new) (variadic_at (map param_shape params.now) (ahead_of block.old)) }
+{
+    if params.is_empty() {
+        return Ok(false);
+    }
+    read_truth(block)
+}
+
+/// The parameters, the results, and whether the last parameter is variadic.
+#[tactic(auto, unfolding(decl_spelling::specs::Descriptors::sig_at))]
+pub(crate) fn read_signature(
+    alloc: Global,
+    parts: &Parts<'_>,
+    block: &mut Block<'_>,
+) -> Result<Signature, ReadFault>
+    requires { IsOfFile parts.now }
+    ensures { Gives sig_shape result (ahead_of block.new) (sig_at (source_of parts.now) (ahead_of block.old)) }
+{
+    let params = read_list(alloc, parts, block)?;
+    let results = read_list(alloc, parts, block)?;
+    let variadic = read_variadic(params.as_slice(), block)?;
+    Ok(Signature {
+        params,
+        results,
+        variadic,
+    })
+}

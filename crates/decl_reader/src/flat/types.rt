@@ -1,0 +1,91 @@
+//! Lists of types, as numbers.
+
+ghost use Rattle.std.specs.Prelude.{◌≡◌, ◌<◌};
+ghost use Rattle.position_codec.specs.FileParts.{IsOfFile};
+ghost use Rattle.decl_spelling.specs.Reading.{times, list_at, some_at, type_at};
+ghost use Rattle.decl_spelling.specs.Descriptors.{embedded_at};
+ghost use Rattle.decl_reader.specs.Calls.{Gives, ahead_of, source_of};
+
+use crate::block::{Block, read_number, read_pos, read_type};
+use crate::fault::ReadFault;
+use decl_spelling::Demand;
+use position_codec::Parts;
+use std::alloc::Global;
+use wire_bytes::ByteFault;
+
+/// At least one type, after their count. The same is asked of each.
+#[tactic(auto, unfolding(decl_spelling::specs::Reading::some_at))]
+pub(crate) fn read_types(
+    alloc: Global,
+    asked: Demand,
+    block: &mut Block<'_>,
+) -> Result<Vec<u64>, ReadFault>
+    ensures { Gives (λ v. v.items) result (ahead_of block.new) (some_at (type_at asked) (ahead_of block.old)) }
+{
+    let at = block.cursor.place() as u64;
+    let count = read_number(block)?;
+    if count == 0 {
+        return Err(ReadFault::Bytes(ByteFault::Range { at, value: count }));
+    }
+    read_type_times(alloc, asked, count, block)
+}
+
+fn read_type_times(
+    alloc: Global,
+    asked: Demand,
+    count: u64,
+    block: &mut Block<'_>,
+) -> Result<Vec<u64>, ReadFault>
+    ensures { Gives (λ v. v.items) result (ahead_of block.new) (times (type_at asked) count (ahead_of block.old)) }
+{
+    let mut types = Vec::new(alloc);
+    for _ in 0..count {
+        let ty = read_type(block, asked)?;
+        types.push(ty)?;
+    }
+    Ok(types)
+}
+
+/// The types that are embedded in an interface, after their count. The position before each isn't kept.
+#[tactic(auto, unfolding(decl_spelling::specs::Reading::list_at))]
+pub(crate) fn read_embedded(
+    alloc: Global,
+    parts: &Parts<'_>,
+    block: &mut Block<'_>,
+) -> Result<Vec<u64>, ReadFault>
+    requires { IsOfFile parts.now }
+    ensures { Gives (λ v. v.items) result (ahead_of block.new) (list_at (embedded_at (source_of parts.now)) (ahead_of block.old)) }
+{
+    let count = read_number(block)?;
+    read_embedded_times(alloc, parts, count, block)
+}
+
+fn read_embedded_times(
+    alloc: Global,
+    parts: &Parts<'_>,
+    count: u64,
+    block: &mut Block<'_>,
+) -> Result<Vec<u64>, ReadFault>
+    requires { IsOfFile parts.now }
+    ensures { Gives (λ v. v.items) result (ahead_of block.new) (times (embedded_at (source_of parts.now)) count (ahead_of block.old)) }
+{
+    let mut types = Vec::new(alloc);
+    for _ in 0..count {
+        let ty = read_embedded_type(alloc, parts, block)?;
+        types.push(ty)?;
+    }
+    Ok(types)
+}
+
+#[tactic(auto, unfolding(decl_spelling::specs::Descriptors::embedded_at))]
+fn read_embedded_type(
+    alloc: Global,
+    parts: &Parts<'_>,
+    block: &mut Block<'_>,
+) -> Result<u64, ReadFault>
+    requires { IsOfFile parts.now }
+    ensures { Gives (λ n. n) result (ahead_of block.new) (embedded_at (source_of parts.now) (ahead_of block.old)) }
+{
+    let _pos = read_pos(alloc, parts, block)?;
+    read_type(block, Demand::Any)
+}

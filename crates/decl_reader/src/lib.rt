@@ -1,0 +1,18 @@
+//! Reads a declaration of a full file, or names the first fault of its bytes. The bytes of a declaration, and of each
+//! descriptor of a type, are read by themselves first, with types as numbers. docs/FORMAT.md has the rules in words,
+//! `decl_spelling` has them as definitions.
+#![tactic(auto)]
+
+mod basics;
+mod block;
+mod codes;
+mod fault;
+mod flat;
+mod heads;
+
+pub use basics::Basics;
+pub use fault::ReadFault;
+pub use heads::{Head, one_head, read_head};
+
+#[cfg(test)]
+mod tests;
