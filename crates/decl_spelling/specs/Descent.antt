@@ -24,7 +24,7 @@ is_parameter (parameter q) = true
 is_parameter _ = false
 
 abbrev pub is_interface : Tree → Bool
-is_interface (interface home embedded methods) = true
+is_interface (interface home embedded own) = true
 is_interface _ = false
 
 abbrev pub is_generic : Tree → Bool
@@ -42,7 +42,7 @@ is_underlying (named q) = false
 is_underlying (parameter q) = false
 is_underlying (alias q) = false
 is_underlying (instance base args) = false
-is_underlying (union terms) = false
+is_underlying (union parts) = false
 is_underlying _ = true
 
 abbrev pub meets : Demand → Tree → Bool
