@@ -3,7 +3,7 @@ use Rattle.std.proofs.Common.{◌≡◌, ℕ, ◌<◌, ◌≤◌, max, Bool, tru
 use Rattle.go_syntax.specs.declared.symbols.Symbol.{Symbol}
 use Rattle.go_syntax.specs.declared.symbols.Symbol.TheVariants as t
 use Rattle.go_syntax.specs.declared.symbols.Ident.{Ident}
-use Rattle.go_syntax.specs.declared.faults.Fault.TheVariants.{Unexpected, Deep, DotImport}
+use Rattle.go_syntax.specs.declared.faults.Fault.TheVariants.{Unexpected, Deep, DotImport, Call}
 use Rattle.go_syntax.specs.declared.tree.NameExpr.{NameExpr}
 use Rattle.go_syntax.specs.Reading.{Reply, ◌>>=◌, past, choose, starts, is_dot, is_comma, row_by, row_item, row, row_end}
 use Rattle.go_syntax.specs.Names.{plain, IsTypeName, own, of_package, IsNames, one, more, selected_by, dotted, names_more, names_at}
@@ -16,6 +16,7 @@ Agrees n m x rest (Ok y) = (y.0 ≡ x) × (y.1 ≡ rest) × (m ≤ n)
 Agrees n m x rest (Err (Deep k)) = n < m
 Agrees n m x rest (Err (Unexpected k)) = ⊥
 Agrees n m x rest (Err (DotImport k)) = ⊥
+Agrees n m x rest (Err (Call k at)) = ⊥
 
 pub agrees_bind : {A B : Type 0} (n m : ℕ) (a : A) (us : List Symbol) (i j : ℕ) (b : B) (rest : List Symbol) (r : Reply A) (q : A → List Symbol → Reply B) → Agrees n m a us r
     → (n < m → i < j) → (m ≤ n → Agrees i j b rest (q a us)) → Agrees i j b rest (r >>= λ z. q z.0 z.1)
@@ -24,6 +25,7 @@ agrees_bind n m a us i j b rest (Ok z) q h deeper fits =
 agrees_bind n m a us i j b rest (Err (Deep k)) q h deeper fits = deeper h
 agrees_bind n m a us i j b rest (Err (Unexpected k)) q h deeper fits = absurd h
 agrees_bind n m a us i j b rest (Err (DotImport k)) q h deeper fits = absurd h
+agrees_bind n m a us i j b rest (Err (Call k at)) q h deeper fits = absurd h
 
 -- ---- the next token isn't of a kind
 

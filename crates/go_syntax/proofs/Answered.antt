@@ -40,6 +40,7 @@ told : (src : List ℕ) (tokens : List Token) (f : Fault) → Explains 1000 (sym
 told src tokens (stop.Unexpected left) h = (left, refl, h)
 told src tokens (stop.Deep left) h = (left, refl, h)
 told src tokens (stop.DotImport left) h = (left, refl, h)
+told src tokens (stop.Call left at) h = (left, h)
 
 pub place_by : (src : List ℕ) (tokens : List Token) (r : Result SourceFile Stop) → Reads src tokens r → IfErr (answer_of src tokens r) (λ s. Tells src tokens s)
 place_by src tokens (Ok x) h = tt

@@ -4,7 +4,7 @@ use Rattle.std.proofs.lemmas.List.{append-nil}
 use Rattle.go_syntax.specs.declared.symbols.Symbol.{Symbol}
 use Rattle.go_syntax.specs.declared.tree.SourceFile.{SourceFile}
 use Rattle.go_syntax.specs.declared.faults.Fault.{Fault}
-use Rattle.go_syntax.specs.declared.faults.Fault.TheVariants.{Unexpected, Deep, DotImport}
+use Rattle.go_syntax.specs.declared.faults.Fault.TheVariants.{Unexpected, Deep, DotImport, Call}
 use Rattle.go_syntax.specs.Reading.{Reply, ◌>>=◌}
 use Rattle.go_syntax.specs.Decls.{IsFileOf}
 use Rattle.go_syntax.specs.Files.{file_front, at_end, file_at}
@@ -43,6 +43,7 @@ only_one n m f (Ok z) le h = ap (λ (us : List Symbol). at_end z.0 us) h.1 ∙ a
 only_one n m f (Err (Deep k)) le h = absurd (omega arith)
 only_one n m f (Err (Unexpected k)) le h = absurd h
 only_one n m f (Err (DotImport k)) le h = absurd h
+only_one n m f (Err (Call k at)) le h = absurd h
 
 pub is_only : (n m : ℕ) (ts : List Symbol) (f : SourceFile) → IsFileOf m ts f [] → m ≤ n → file_at n ts ≡ Ok f
 is_only n m ts f w le = only_one n m f (file_front n ts) le (again n m ts f w)
@@ -62,6 +63,9 @@ clash_unexpected n m k f r e h = subst (Agrees n m f []) e h
 
 clash_dot : (n m k : ℕ) (f : SourceFile) (r : Reply SourceFile) → r ≡ Err (DotImport k) → Agrees n m f [] r → ⊥
 clash_dot n m k f r e h = subst (Agrees n m f []) e h
+
+clash_call : (n m k at : ℕ) (f : SourceFile) (r : Reply SourceFile) → r ≡ Err (Call k at) → Agrees n m f [] r → ⊥
+clash_call n m k at f r e h = subst (Agrees n m f []) e h
 
 clash_deep : (n m k : ℕ) (f : SourceFile) (r : Reply SourceFile) → r ≡ Err (Deep k) → Agrees n m f [] r → n < m
 clash_deep n m k f r e h = subst (Agrees n m f []) e h
@@ -92,6 +96,16 @@ dot_at n ts k h = record {
   place = let e : DotImport k ≡ DotImport (length h.rest) = h.place in cc;
   begins = begins_of n ts (DotImport k) h;
   ends = stops_if n h.front h.rest (λ r f m e w. clash_dot n m (length r) f (file_front n (h.front ++ r)) (h.stays r e) (again n m (h.front ++ r) f w));
+}
+
+call_at : (n : ℕ) (ts : List Symbol) (k at : ℕ) → ReadNot FileAt (file_front n) ts (Call k at) → IsUnexpected ts k
+call_at n ts k at h = record {
+  front = h.front;
+  rest = h.rest;
+  split = h.split;
+  place = let e : Call k at ≡ Call (length h.rest) at = h.place in cc;
+  begins = begins_of n ts (Call k at) h;
+  ends = stops_if n h.front h.rest (λ r f m e w. clash_call n m (length r) at f (file_front n (h.front ++ r)) (h.stays r e) (again n m (h.front ++ r) f w));
 }
 
 deepens_if : (n : ℕ) (front rest : List Symbol) → ((r : List Symbol) (f : SourceFile) (m : ℕ) → ahead rest ≡ ahead r → IsFileOf m (front ++ r) f [] → n < m) → Deepens n front rest
@@ -130,6 +144,7 @@ explains_not : (n : ℕ) (ts : List Symbol) (f : Fault) → ReadNot FileAt (file
 explains_not n ts (Unexpected k) h = unexpected_at n ts k h
 explains_not n ts (Deep k) h = deep_at n ts k h
 explains_not n ts (DotImport k) h = dot_at n ts k h
+explains_not n ts (Call k at) h = call_at n ts k at h
 
 explains_ok : (n : ℕ) (ts : List Symbol) (f : Fault) (g : SourceFile) (rest : List Symbol) → ReadOk FileAt (file_front n) ts g rest → at_end g rest ≡ Err f → Explains n ts f
 explains_ok n ts f g [] h e = absurd cc

@@ -3,9 +3,13 @@ pub mod Marks
 pub mod Rows
 pub mod NameReads
 pub mod FieldReads
+pub mod OperandReads
+pub mod ExprReads
+pub mod ExprTurns
 pub mod TypeReads
 pub mod Turns
 pub mod Agreeing
+pub mod ExprAgain
 pub mod TypeAgain
 pub mod Steps
 pub mod FileReads

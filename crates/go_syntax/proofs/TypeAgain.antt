@@ -1,5 +1,5 @@
 -- A type that is written is read again.
-use Rattle.std.proofs.Common.{◌≡◌, ℕ, zero, suc, ◌≤◌, max, Bool, true, false, List, [], ◌∷◌, Option, None, Ok, refl, sym, subst, arith}
+use Rattle.std.proofs.Common.{◌≡◌, ℕ, zero, suc, ◌≤◌, ◌-◌, max, Bool, true, false, List, [], ◌∷◌, Option, None, Ok, refl, sym, subst, arith}
 use Rattle.go_syntax.specs.declared.symbols.Symbol.{Symbol}
 use Rattle.go_syntax.specs.declared.symbols.Symbol.TheVariants as t
 use Rattle.go_syntax.specs.declared.symbols.Ident.{Ident}
@@ -8,11 +8,14 @@ use Rattle.go_syntax.specs.declared.tree.NameExpr.{NameExpr}
 use Rattle.go_syntax.specs.declared.tree.FieldExpr.{FieldExpr}
 use Rattle.go_syntax.specs.declared.tree.TypeExpr.{TypeExpr}
 use Rattle.go_syntax.specs.declared.tree.TypeExpr.TheVariants as y
-use Rattle.go_syntax.specs.Reading.{too_deep, peek, starts, is_dot, is_comma, is_arrow, is_close_brace, row}
+use Rattle.go_syntax.specs.Reading.{too_deep, peek, starts, is_dot, is_comma, is_arrow, is_close_bracket, is_close_brace, row}
 use Rattle.go_syntax.specs.Names.{plain, IsTypeName, own, of_package, IsNames, one, more, IsTag, none, some, tag_at, dotted}
 use Rattle.go_syntax.specs.Grammar as g
 use Rattle.go_syntax.specs.Grammar.{named, field, IsType, IsField, IsFields}
-use Rattle.go_syntax.specs.Types.{with_type, paren_end, map_end, tagged, shared_by, more_names, lone_by, shows_embedded, begins_type, no_type, field_by, type_by, type_at}
+use Rattle.go_syntax.specs.Types.{with_type, paren_end, array_end, array_by, map_end, tagged, shared_by, more_names, lone_by, shows_embedded, begins_type, no_type, field_by, type_by, type_at}
+use Rattle.go_syntax.specs.declared.expressions.Operand.{Operand}
+use Rattle.go_syntax.specs.Operands.{expr_at}
+use Rattle.go_syntax.proofs.ExprAgain.{expr_no_bracket, expr_again}
 use Rattle.go_syntax.proofs.TypeReads.{field_eats}
 use Rattle.go_syntax.proofs.Agreeing.{Agrees, agrees_bind, choose_other, plain_again, name_again, names_again, row_none, row_last, row_more}
 
@@ -97,6 +100,7 @@ type_begins m ts ty rest (g.name us x r (of_package p d i r')) = refl
 type_begins m ts ty rest (g.paren n at c us z r a) = refl
 type_begins m ts ty rest (g.pointer n at us z r a) = refl
 type_begins m ts ty rest (g.slice n at c us z r a) = refl
+type_begins m ts ty rest (g.array i n at c us x vs z r a d) = refl
 type_begins m ts ty rest (g.map_of i n at b c us key vs z r a d) = refl
 type_begins m ts ty rest (g.both_ways n at us z r e a) = refl
 type_begins m ts ty rest (g.send_only n at b us z r a) = refl
@@ -121,6 +125,15 @@ unfolding type_at
 paren_again zero m at c ts ty rest h = omega arith
 paren_again (suc n) m at c ts ty rest h =
     agrees_bind n m ty (t.CloseParen c ∷ rest) (suc n) (suc m) (y.Paren ty at) rest (type_at n ts) (paren_end at) (h n) (λ d. omega arith) (λ f. (refl, refl, omega arith))
+
+array_again : (n m j at c : ℕ) (ts : List Symbol) (x : Operand) (us : List Symbol) (ty : TypeExpr) (rest : List Symbol) → starts is_close_bracket ts ≡ false → ((l : ℕ) → Agrees l m (x, l - m) (t.CloseBracket c ∷ us) (expr_at l ts))
+    → ((l : ℕ) → Agrees l j ty rest (type_at l us)) → Agrees n (suc (max m j)) (y.Array x.expr ty at) rest (type_at n (t.OpenBracket at ∷ ts))
+unfolding type_at
+array_again zero m j at c ts x us ty rest e h k = omega arith
+array_again (suc n) m j at c ts x us ty rest e h k =
+    rw (choose_other is_close_bracket ts (with_type (type_at n) (λ z. y.Slice z at)) (array_by n (type_at n) at ts) e)
+    (agrees_bind n m (x, n - m) (t.CloseBracket c ∷ us) (suc n) (suc (max m j)) (y.Array x.expr ty at) rest (expr_at n ts) (λ z vs. array_end (type_at n) at (z.0).expr vs) (h n) (λ d. omega arith)
+    (λ f. agrees_bind n j ty rest (suc n) (suc (max m j)) (y.Array x.expr ty at) rest (type_at n us) (λ w vs. Ok (y.Array x.expr w at, vs)) (k n) (λ d. omega arith) (λ w. (refl, refl, omega arith))))
 
 map_again : (n m j at b c : ℕ) (ts : List Symbol) (key : TypeExpr) (us : List Symbol) (ty : TypeExpr) (rest : List Symbol) → ((l : ℕ) → Agrees l m key (t.CloseBracket c ∷ us) (type_at l ts)) → ((l : ℕ) → Agrees l j ty rest (type_at l us))
     → Agrees n (suc (max m j)) (y.MapOf key ty at) rest (type_at n (t.Map at ∷ t.OpenBracket b ∷ ts))
@@ -185,6 +198,8 @@ mutual
   type_again m ts ty rest (g.paren j at c us z r a) e n = paren_again n j at c us z r (type_again j us z (t.CloseParen c ∷ r) a refl)
   type_again m ts ty rest (g.pointer j at us z r a) e n = wrap_again n j z r (λ w. y.Pointer w at) (t.Star at ∷ us) us refl (λ l. refl) (type_again j us z r a e)
   type_again m ts ty rest (g.slice j at c us z r a) e n = wrap_again n j z r (λ w. y.Slice w at) (t.OpenBracket at ∷ t.CloseBracket c ∷ us) us refl (λ l. refl) (type_again j us z r a e)
+  type_again m ts ty rest (g.array i j at c us x vs z r a d) e n =
+      array_again n i j at c us x vs z r (expr_no_bracket i us x (t.CloseBracket c ∷ vs) a) (expr_again i us x (t.CloseBracket c ∷ vs) a refl (λ p. omega (arith, p))) (type_again j vs z r d e)
   type_again m ts ty rest (g.map_of i j at b c us key vs z r a d) e n = map_again n i j at b c us key vs z r (type_again i us key (t.CloseBracket c ∷ vs) a refl) (type_again j vs z r d e)
   type_again m ts ty rest (g.both_ways j at us z r s a) e n = wrap_again n j z r (λ w. y.Chan true true w at) (t.Chan at ∷ us) us refl (λ l. choose_other is_arrow us (with_type (type_at l) (λ w. y.Chan false true w at)) (with_type (type_at l) (λ w. y.Chan true true w at) us) s) (type_again j us z r a e)
   type_again m ts ty rest (g.send_only j at b us z r a) e n = wrap_again n j z r (λ w. y.Chan false true w at) (t.Chan at ∷ t.Arrow b ∷ us) us refl (λ l. refl) (type_again j us z r a e)

@@ -9,11 +9,14 @@ use Rattle.go_syntax.specs.Reading.{Reply, unexpected, too_deep, starts, is_arro
 use Rattle.go_syntax.specs.Names.{plain, IsTypeName, own, dotted}
 use Rattle.go_syntax.specs.Grammar as g
 use Rattle.go_syntax.specs.Grammar.{named, IsType}
-use Rattle.go_syntax.specs.Types.{name_by, with_type, paren_end, paren_by, slice_by, map_end, map_inside, map_by, chan_by, receive_by, star_by, star_at, field_by, struct_inside, struct_by, type_by, begins_type, no_type, type_at}
+use Rattle.go_syntax.specs.Types.{name_by, with_type, paren_end, paren_by, array_end, array_by, bracket_by, map_end, map_inside, map_by, chan_by, receive_by, star_by, star_at, field_by, struct_inside, struct_by, type_by, begins_type, no_type, type_at}
+use Rattle.go_syntax.specs.Operands.{expr_at}
 use Rattle.go_syntax.proofs.Viable.{ReadsAt, Behind, Past, After, done_reads, refuse_next, refuse_end, cons_reads, past_reads, choose_reads, peek_reads, stuck_reads, deep_reads, bind_reads, value_reads, only_reads, starts_same}
 use Rattle.go_syntax.proofs.Marks.{arrow, chan, close_paren, open_bracket, close_bracket, open_brace}
 use Rattle.go_syntax.proofs.NameReads.{any_ident, dotted_reads}
 use Rattle.go_syntax.proofs.FieldReads.{TypeAt, FieldAt, FieldsAt, some_type, no_field, field_reads, fields_read}
+use Rattle.go_syntax.proofs.OperandReads.{ExprAt}
+use Rattle.go_syntax.proofs.ExprReads.{expr_reads}
 use Rattle.go_syntax.proofs.Rows.{Eats, eats_of}
 
 name_reads : (i : Ident) (ts : List Symbol) → ReadsAt (Behind (t.Ident i) TypeAt) (name_by i) ts (name_by i ts)
@@ -28,11 +31,29 @@ paren_reads inner h at ts =
     (λ k vs e. done_reads (Past close_paren (After TypeAt (Behind (t.OpenParen at) TypeAt) ty)) (λ rest. Ok (y.Paren ty at, rest)) vs (y.Paren ty at) (λ tail c ws w. (suc w.0, g.paren w.0 at c ws ty tail w.1)) (λ r e'. refl)))
     (inner ts) (h ts)
 
-slice_reads : (inner : List Symbol → Reply TypeExpr) → ((us : List Symbol) → ReadsAt TypeAt inner us (inner us)) → (at : ℕ) (ts : List Symbol) → ReadsAt (Behind (t.OpenBracket at) TypeAt) (slice_by inner at) ts (slice_by inner at ts)
-slice_reads inner h at ts =
-    past_reads is_close_bracket (Behind (t.OpenBracket at) TypeAt) close_bracket (with_type inner (λ ty. y.Slice ty at)) ts
-    (record { tokens = some_type.tokens; made = y.Slice some_type.made at; stands = λ tail c. let w = some_type.stands tail in (suc w.0, g.slice w.0 at c _ _ tail w.1) })
-    (λ k us e. value_reads TypeAt (Past close_bracket (Behind (t.OpenBracket at) TypeAt)) inner (λ ty. y.Slice ty at) us (λ vs ty rest w c. (suc w.0, g.slice w.0 at c vs ty rest w.1)) (inner us) (h us))
+array_reads : (n : ℕ) (inner : List Symbol → Reply TypeExpr) → ((us : List Symbol) → ReadsAt TypeAt inner us (inner us)) → (at : ℕ) (ts : List Symbol) → ReadsAt (Behind (t.OpenBracket at) TypeAt) (array_by n inner at) ts (array_by n inner at ts)
+array_reads n inner h at ts =
+    bind_reads (ExprAt 5) (Behind (t.OpenBracket at) TypeAt) (expr_at n) (λ z us. array_end inner at (z.0).expr us) ts
+    (λ z. record {
+      tokens = t.CloseBracket 0 ∷ t.Ident any_ident ∷ [];
+      made = y.Array (z.0).expr (named (plain any_ident)) at;
+      stands = λ tail us w. (suc (max w.0 1), g.array w.0 1 at 0 us z.0 (t.Ident any_ident ∷ tail) (named (plain any_ident)) tail w.1 (g.name _ (plain any_ident) _ (own any_ident tail)));
+    })
+    (λ z us o. past_reads is_close_bracket (After (ExprAt 5) (Behind (t.OpenBracket at) TypeAt) z) close_bracket (with_type inner (λ ty. y.Array (z.0).expr ty at)) us
+    (record {
+      tokens = t.Ident any_ident ∷ [];
+      made = y.Array (z.0).expr (named (plain any_ident)) at;
+      stands = λ tail c vs w. (suc (max w.0 1), g.array w.0 1 at c vs z.0 (t.Ident any_ident ∷ tail) (named (plain any_ident)) tail w.1 (g.name _ (plain any_ident) _ (own any_ident tail)));
+    })
+    (λ k vs e. value_reads TypeAt (Past close_bracket (After (ExprAt 5) (Behind (t.OpenBracket at) TypeAt) z)) inner (λ ty. y.Array (z.0).expr ty at) vs
+    (λ ws ty rest v c us' w. (suc (max w.0 v.0), g.array w.0 v.0 at c us' z.0 ws ty rest w.1 v.1)) (inner vs) (h vs)))
+    (expr_at n ts) (expr_reads n 5 ts)
+
+bracket_reads : (n : ℕ) (inner : List Symbol → Reply TypeExpr) → ((us : List Symbol) → ReadsAt TypeAt inner us (inner us)) → (at : ℕ) (ts : List Symbol) → ReadsAt (Behind (t.OpenBracket at) TypeAt) (bracket_by n inner at) ts (bracket_by n inner at ts)
+bracket_reads n inner h at ts =
+    choose_reads is_close_bracket (Behind (t.OpenBracket at) TypeAt) close_bracket (with_type inner (λ ty. y.Slice ty at)) (array_by n inner at) ts
+    (λ us. value_reads TypeAt (Past close_bracket (Behind (t.OpenBracket at) TypeAt)) inner (λ ty. y.Slice ty at) us (λ vs ty rest w c. (suc w.0, g.slice w.0 at c vs ty rest w.1)) (inner us) (h us))
+    (λ e. array_reads n inner h at ts)
 
 map_reads : (inner : List Symbol → Reply TypeExpr) → ((us : List Symbol) → ReadsAt TypeAt inner us (inner us)) → (at : ℕ) (ts : List Symbol) → ReadsAt (Behind (t.Map at) TypeAt) (map_by inner at) ts (map_by inner at ts)
 map_reads inner h at ts =
@@ -99,7 +120,7 @@ type_step n inner h (t.OpenParen at ∷ ts) = cons_reads TypeAt (type_by n inner
 type_step n inner h (t.Star at ∷ ts) =
     cons_reads TypeAt (type_by n inner) (with_type inner (λ ty. y.Pointer ty at)) (t.Star at) ts (with_type inner (λ ty. y.Pointer ty at) ts) (λ r. refl)
     (value_reads TypeAt (Behind (t.Star at) TypeAt) inner (λ ty. y.Pointer ty at) ts (λ us ty rest w. (suc w.0, g.pointer w.0 at us ty rest w.1)) (inner ts) (h ts))
-type_step n inner h (t.OpenBracket at ∷ ts) = cons_reads TypeAt (type_by n inner) (slice_by inner at) (t.OpenBracket at) ts (slice_by inner at ts) (λ r. refl) (slice_reads inner h at ts)
+type_step n inner h (t.OpenBracket at ∷ ts) = cons_reads TypeAt (type_by n inner) (bracket_by n inner at) (t.OpenBracket at) ts (bracket_by n inner at ts) (λ r. refl) (bracket_reads n inner h at ts)
 type_step n inner h (t.Map at ∷ ts) = cons_reads TypeAt (type_by n inner) (map_by inner at) (t.Map at) ts (map_by inner at ts) (λ r. refl) (map_reads inner h at ts)
 type_step n inner h (t.Chan at ∷ ts) = cons_reads TypeAt (type_by n inner) (chan_by inner at) (t.Chan at) ts (chan_by inner at ts) (λ r. refl) (chan_reads inner h at ts)
 type_step n inner h (t.Arrow at ∷ ts) = cons_reads TypeAt (type_by n inner) (receive_by inner at) (t.Arrow at) ts (receive_by inner at ts) (λ r. refl) (receive_reads inner h at ts)

@@ -3,7 +3,7 @@
 use Rattle.std.proofs.Common.{◌≡◌, ℕ, ◌<◌, Bool, true, false, if◌then◌else◌, List, [], ◌∷◌, ◌++◌, length, Option, Some, None, Ok, Err, refl, sym, ap, subst, ◌∙◌, append_assoc, arith, length-append}
 use Rattle.go_syntax.specs.declared.symbols.Symbol.{Symbol}
 use Rattle.go_syntax.specs.declared.faults.Fault.{Fault}
-use Rattle.go_syntax.specs.declared.faults.Fault.TheVariants.{Unexpected, Deep, DotImport}
+use Rattle.go_syntax.specs.declared.faults.Fault.TheVariants.{Unexpected, Deep, DotImport, Call}
 use Rattle.go_syntax.specs.Reading.{Reply, ◌>>=◌, unexpected, too_deep, past, choose, starts, peek}
 
 abbrev pub ahead : List Symbol → Option Symbol
@@ -15,6 +15,7 @@ abbrev pub moved : Fault → ℕ → Fault
 moved (Unexpected k) n = Unexpected n
 moved (Deep k) n = Deep n
 moved (DotImport k) n = DotImport n
+moved (Call k at) n = Call n at
 
 -- tokens that stand for something
 pub record Sample {X : Type 0} (F : List Symbol → X → List Symbol → Type 0) : Type 0 where

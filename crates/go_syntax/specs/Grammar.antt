@@ -5,11 +5,13 @@ use Rattle.go_syntax.specs.declared.symbols.Symbol.TheVariants as t
 use Rattle.go_syntax.specs.declared.symbols.Ident.{Ident}
 use Rattle.go_syntax.specs.declared.symbols.Span.{Span}
 use Rattle.go_syntax.specs.declared.tree.NameExpr.{NameExpr}
+use Rattle.go_syntax.specs.declared.expressions.Operand.{Operand}
 use Rattle.go_syntax.specs.declared.tree.FieldExpr.{FieldExpr}
 use Rattle.go_syntax.specs.declared.tree.TypeExpr.{TypeExpr}
 use Rattle.go_syntax.specs.declared.tree.TypeExpr.TheVariants as y
 use Rattle.go_syntax.specs.Reading.{starts, is_arrow}
 use Rattle.go_syntax.specs.Names.{IsTypeName, IsNames, IsTag}
+use Rattle.go_syntax.specs.Expressions.{IsExpr}
 
 abbrev pub named : NameExpr → TypeExpr
 named x = y.Name x x.at
@@ -25,6 +27,9 @@ mutual
     pointer : (n at : ℕ) (ts : List Symbol) (ty : TypeExpr) (rest : List Symbol) → IsType n ts ty rest → IsType (suc n) (t.Star at ∷ ts) (y.Pointer ty at) rest
     slice : (n at c : ℕ) (ts : List Symbol) (ty : TypeExpr) (rest : List Symbol) → IsType n ts ty rest
         → IsType (suc n) (t.OpenBracket at ∷ t.CloseBracket c ∷ ts) (y.Slice ty at) rest
+    array : (m n at c : ℕ) (ts : List Symbol) (length : Operand) (us : List Symbol) (ty : TypeExpr) (rest : List Symbol)
+        → IsExpr 5 m ts length (t.CloseBracket c ∷ us) → IsType n us ty rest
+        → IsType (suc (max m n)) (t.OpenBracket at ∷ ts) (y.Array length.expr ty at) rest
     map_of : (m n at b c : ℕ) (ts : List Symbol) (key : TypeExpr) (us : List Symbol) (ty : TypeExpr) (rest : List Symbol)
         → IsType m ts key (t.CloseBracket c ∷ us) → IsType n us ty rest
         → IsType (suc (max m n)) (t.Map at ∷ t.OpenBracket b ∷ ts) (y.MapOf key ty at) rest

@@ -1,6 +1,8 @@
 pub mod Reading
 pub mod Names
 pub mod Grammar
+pub mod Expressions
+pub mod Operands
 pub mod Types
 pub mod Kinds
 pub mod Decls

@@ -3,7 +3,7 @@ use Rattle.std.specs.Prelude.{◌≡◌, ℕ, ◌<◌, List, [], ◌∷◌, ◌+
 use Rattle.go_syntax.specs.declared.symbols.Symbol.{Symbol}
 use Rattle.go_syntax.specs.declared.tree.SourceFile.{SourceFile}
 use Rattle.go_syntax.specs.declared.faults.Fault.{Fault}
-use Rattle.go_syntax.specs.declared.faults.Fault.TheVariants.{Unexpected, Deep, DotImport}
+use Rattle.go_syntax.specs.declared.faults.Fault.TheVariants.{Unexpected, Deep, DotImport, Call}
 use Rattle.go_syntax.specs.Decls.{IsFileOf}
 
 -- all of the tokens are this file, whose paths have any number of nodes
@@ -46,3 +46,4 @@ abbrev pub Explains : ℕ → List Symbol → Fault → Type 0
 Explains n ts (Unexpected left) = IsUnexpected ts left
 Explains n ts (Deep left) = IsTooDeep n ts left
 Explains n ts (DotImport left) = IsUnexpected ts left
+Explains n ts (Call left at) = IsUnexpected ts left

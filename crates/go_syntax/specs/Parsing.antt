@@ -17,6 +17,7 @@ abbrev pub fault_of : List ℕ → List Token → Fault → SyntaxFault
 fault_of src tokens (stop.Unexpected left) = fault.Unexpected (place_of src tokens left)
 fault_of src tokens (stop.Deep left) = fault.LeftOut (place_of src tokens left) what.Depth
 fault_of src tokens (stop.DotImport left) = fault.LeftOut (place_of src tokens left) what.DotImport
+fault_of src tokens (stop.Call left at) = fault.LeftOut at what.Call
 
 -- what is answered of a reading
 abbrev pub answer_of : List ℕ → List Token → Result SourceFile Stop → Result SourceFile SyntaxFault
@@ -26,6 +27,7 @@ answer_of src tokens (Err (stopped.At f)) = Err (fault_of src tokens f)
 
 abbrev pub TellsOut : List ℕ → List Token → ℕ → What → Type 0
 TellsOut src tokens at what.Depth = (left : ℕ) × (at ≡ place_of src tokens left) × IsTooDeep 1000 (symbols_of src tokens) left
+TellsOut src tokens at what.Call = (left : ℕ) × IsUnexpected (symbols_of src tokens) left
 TellsOut src tokens at what.DotImport = (left : ℕ) × (at ≡ place_of src tokens left) × IsUnexpected (symbols_of src tokens) left
 
 -- what each fault says of the tokens

@@ -3,12 +3,14 @@ use Rattle.std.specs.Prelude.{ℕ, zero, suc, Bool, true, false, List, [], ◌�
 use Rattle.go_syntax.specs.declared.symbols.Symbol.{Symbol}
 use Rattle.go_syntax.specs.declared.symbols.Symbol.TheVariants as t
 use Rattle.go_syntax.specs.declared.symbols.Ident.{Ident}
+use Rattle.go_syntax.specs.declared.tree.Expr.{Expr}
 use Rattle.go_syntax.specs.declared.tree.FieldExpr.{FieldExpr}
 use Rattle.go_syntax.specs.declared.tree.TypeExpr.{TypeExpr}
 use Rattle.go_syntax.specs.declared.tree.TypeExpr.TheVariants as y
 use Rattle.go_syntax.specs.Reading.{Reply, ◌>>=◌, unexpected, too_deep, past, is_close_paren, is_open_bracket, is_close_bracket, is_open_brace, is_close_brace, is_chan, is_arrow, is_comma, is_ident, choose, peek, row}
 use Rattle.go_syntax.specs.Names.{ident_at, tag_at, dotted, names_more, names_at}
 use Rattle.go_syntax.specs.Grammar.{named, field}
+use Rattle.go_syntax.specs.Operands.{expr_at}
 
 abbrev pub name_by : Ident → List Symbol → Reply TypeExpr
 name_by i ts = dotted i ts >>= λ x. Ok (named x.0, x.1)
@@ -23,8 +25,14 @@ paren_end at ty us = past is_close_paren us >>= λ rest. Ok (y.Paren ty at, rest
 abbrev pub paren_by : (List Symbol → Reply TypeExpr) → ℕ → List Symbol → Reply TypeExpr
 paren_by inner at ts = inner ts >>= λ ty. paren_end at ty.0 ty.1
 
-abbrev pub slice_by : (List Symbol → Reply TypeExpr) → ℕ → List Symbol → Reply TypeExpr
-slice_by inner at ts = past is_close_bracket ts >>= λ us. with_type inner (λ ty. y.Slice ty at) us
+abbrev pub array_end : (List Symbol → Reply TypeExpr) → ℕ → Expr → List Symbol → Reply TypeExpr
+array_end inner at length us = past is_close_bracket us >>= λ vs. with_type inner (λ ty. y.Array length ty at) vs
+
+abbrev pub array_by : ℕ → (List Symbol → Reply TypeExpr) → ℕ → List Symbol → Reply TypeExpr
+array_by n inner at ts = expr_at n ts >>= λ x. array_end inner at (x.0.0).expr x.1
+
+abbrev pub bracket_by : ℕ → (List Symbol → Reply TypeExpr) → ℕ → List Symbol → Reply TypeExpr
+bracket_by n inner at ts = choose (past is_close_bracket ts) (λ us. with_type inner (λ ty. y.Slice ty at) us) (array_by n inner at ts)
 
 abbrev pub map_end : (List Symbol → Reply TypeExpr) → ℕ → TypeExpr → List Symbol → Reply TypeExpr
 map_end inner at key us = past is_close_bracket us >>= λ vs. with_type inner (λ ty. y.MapOf key ty at) vs
@@ -106,7 +114,7 @@ abbrev pub type_by : ℕ → (List Symbol → Reply TypeExpr) → List Symbol �
 type_by n inner (t.Ident i ∷ ts) = name_by i ts
 type_by n inner (t.OpenParen at ∷ ts) = paren_by inner at ts
 type_by n inner (t.Star at ∷ ts) = with_type inner (λ ty. y.Pointer ty at) ts
-type_by n inner (t.OpenBracket at ∷ ts) = slice_by inner at ts
+type_by n inner (t.OpenBracket at ∷ ts) = bracket_by n inner at ts
 type_by n inner (t.Map at ∷ ts) = map_by inner at ts
 type_by n inner (t.Chan at ∷ ts) = chan_by inner at ts
 type_by n inner (t.Arrow at ∷ ts) = receive_by inner at ts

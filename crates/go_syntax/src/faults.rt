@@ -7,6 +7,8 @@ pub enum Fault {
     Deep(usize),
     /// The import of a package's names.
     DotImport(usize),
+    /// The next token shows that the parenthesis at this place calls what stands before it.
+    Call(usize, u32),
 }
 
 /// Why a reader gives no tree.

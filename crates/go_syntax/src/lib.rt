@@ -2,6 +2,7 @@
 #![tactic(auto)]
 
 mod decls;
+mod expressions;
 mod faults;
 mod files;
 mod names;
@@ -13,8 +14,10 @@ mod tree;
 mod types;
 
 pub use parsing::{SyntaxFault, What, parse};
-pub use symbols::{Ident, Span};
-pub use tree::{FieldExpr, Import, NameExpr, SourceFile, Top, TypeExpr, TypeSpec, VarSpec};
+pub use symbols::{Ident, Operator, Span};
+pub use tree::{Expr, FieldExpr, Import, NameExpr, SourceFile, Top, TypeExpr, TypeSpec, VarSpec};
 
+#[cfg(test)]
+mod expression_tests;
 #[cfg(test)]
 mod tests;

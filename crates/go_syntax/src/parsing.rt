@@ -19,6 +19,8 @@ use std::alloc::Global;
 pub enum What {
     /// An import of all the names of a package.
     DotImport,
+    /// A call, or a conversion by what is no name of a type.
+    Call,
     /// A path of more than 1,000 nodes in the tree of a type.
     Depth,
 }
@@ -61,6 +63,10 @@ fn fault_of(src: &[u8], tokens: &[Token], fault: Fault) -> SyntaxFault
         Fault::DotImport(left) => SyntaxFault::LeftOut {
             at: place(src, tokens, left),
             what: What::DotImport,
+        },
+        Fault::Call(_, at) => SyntaxFault::LeftOut {
+            at,
+            what: What::Call,
         },
     }
 }

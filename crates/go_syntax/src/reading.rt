@@ -3,6 +3,7 @@ ghost use Rattle.go_syntax.specs.Reading.{past, starts, Exactly};
 ghost use Rattle.go_syntax.specs.Kinds.{is_of};
 ghost use Rattle.go_syntax.specs.Names.{ident_at};
 
+use crate::expressions::is_unary;
 use crate::faults::{Fault, Stop};
 use crate::symbols::{Ident, Symbol};
 use std::alloc::{AllocError, AllocFailed};
@@ -59,6 +60,10 @@ pub(crate) enum Kind {
     Type,
     /// The first token of a type.
     TypeStart,
+    /// The first token of an expression.
+    ExprStart,
+    /// A token that shows that what stands in parentheses is no single argument.
+    GoesOn,
     /// The token that shows that the identifier before it is an embedded type.
     EmbeddedEnd,
 }
@@ -78,6 +83,17 @@ fn begins_type(symbol: Symbol) -> bool
             | Symbol::Arrow(_)
             | Symbol::Struct(_)
     )
+}
+
+/// Whether an expression begins with this token.
+fn begins_expr(symbol: Symbol) -> bool
+    ensures { result ≡ is_of Kind.ExprStart symbol }
+{
+    match symbol {
+        Symbol::Literal(_) | Symbol::Text(_) | Symbol::Ident(_) | Symbol::OpenParen(_) => true,
+        Symbol::Operator(op, _) => is_unary(op),
+        _ => false,
+    }
 }
 
 /// Whether this token shows that the identifier before it is an embedded type.
@@ -114,6 +130,8 @@ fn is_of(kind: Kind, symbol: Symbol) -> bool
         Kind::Type => matches!(symbol, Symbol::Type(_)),
         Kind::TypeStart => begins_type(symbol),
         Kind::EmbeddedEnd => shows_embedded(symbol),
+        Kind::ExprStart => begins_expr(symbol),
+        Kind::GoesOn => matches!(symbol, Symbol::Comma(_) | Symbol::Ellipsis(_)),
     }
 }
 

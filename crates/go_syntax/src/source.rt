@@ -1,7 +1,7 @@
 ghost use Rattle.std.specs.Prelude.{◌≡◌, ◌+◌, ◌-◌, IfOk, slice_get};
-ghost use Rattle.go_syntax.specs.Source.{keyword_symbol, single_symbol, pair_symbol, mark_symbol, symbol_of, symbols_of};
+ghost use Rattle.go_syntax.specs.Source.{keyword_symbol, single_operator, pair_operator, operator_symbol, single_symbol, pair_symbol, triple_symbol, mark_symbol, symbol_of, symbols_of};
 
-use crate::symbols::{Ident, Span, Symbol};
+use crate::symbols::{Ident, Operator, Span, Symbol};
 use code_tables::Keyword;
 use go_lexer::{Token, TokenKind};
 use std::alloc::{AllocError, Global};
@@ -19,6 +19,70 @@ fn keyword_symbol(keyword: Keyword, at: u32) -> Symbol
         Keyword::Map => Symbol::Map(at),
         Keyword::Struct => Symbol::Struct(at),
         _ => Symbol::Other(at),
+    }
+}
+
+/// The operator of one byte, other than the star and the bar.
+fn single_operator(byte: u8) -> Option<Operator>
+    ensures { result ≡ single_operator byte }
+{
+    if byte == b'+' {
+        Some(Operator::Plus)
+    } else if byte == b'-' {
+        Some(Operator::Minus)
+    } else if byte == b'^' {
+        Some(Operator::Caret)
+    } else if byte == b'/' {
+        Some(Operator::Divide)
+    } else if byte == b'%' {
+        Some(Operator::Remainder)
+    } else if byte == b'&' {
+        Some(Operator::Ampersand)
+    } else if byte == b'<' {
+        Some(Operator::Less)
+    } else if byte == b'>' {
+        Some(Operator::Greater)
+    } else if byte == b'!' {
+        Some(Operator::Not)
+    } else {
+        None
+    }
+}
+
+/// The operator of two bytes.
+fn pair_operator(first: u8, second: u8) -> Option<Operator>
+    ensures { result ≡ pair_operator first second }
+{
+    if first == b'|' && second == b'|' {
+        Some(Operator::Or)
+    } else if first == b'&' && second == b'&' {
+        Some(Operator::And)
+    } else if first == b'=' && second == b'=' {
+        Some(Operator::Equal)
+    } else if first == b'!' && second == b'=' {
+        Some(Operator::NotEqual)
+    } else if first == b'<' && second == b'=' {
+        Some(Operator::LessEqual)
+    } else if first == b'>' && second == b'=' {
+        Some(Operator::GreaterEqual)
+    } else if first == b'<' && second == b'<' {
+        Some(Operator::ShiftLeft)
+    } else if first == b'>' && second == b'>' {
+        Some(Operator::ShiftRight)
+    } else if first == b'&' && second == b'^' {
+        Some(Operator::Clear)
+    } else {
+        None
+    }
+}
+
+/// What the grammar sees of an operator, or of a token that is none.
+fn operator_symbol(operator: Option<Operator>, at: u32) -> Symbol
+    ensures { result ≡ operator_symbol operator at }
+{
+    match operator {
+        Some(operator) => Symbol::Operator(operator, at),
+        None => Symbol::Other(at),
     }
 }
 
@@ -48,8 +112,10 @@ fn single_symbol(byte: u8, at: u32) -> Symbol
         Symbol::CloseBrace(at)
     } else if byte == b'*' {
         Symbol::Star(at)
+    } else if byte == b'|' {
+        Symbol::Bar(at)
     } else {
-        Symbol::Other(at)
+        operator_symbol(single_operator(byte), at)
     }
 }
 
@@ -62,10 +128,21 @@ fn pair_symbol(first: u8, second: Option<u8>, at: u32) -> Symbol
             if first == b'<' && second == b'-' {
                 Symbol::Arrow(at)
             } else {
-                Symbol::Other(at)
+                operator_symbol(pair_operator(first, second), at)
             }
         }
         None => Symbol::Other(at),
+    }
+}
+
+/// What the grammar sees of an operator or punctuation of three bytes.
+fn triple_symbol(first: u8, at: u32) -> Symbol
+    ensures { result ≡ triple_symbol first at }
+{
+    if first == b'.' {
+        Symbol::Ellipsis(at)
+    } else {
+        Symbol::Other(at)
     }
 }
 
@@ -80,7 +157,7 @@ fn mark_symbol(len: u32, first: Option<u8>, second: Option<u8>, at: u32) -> Symb
             } else if len == 2 {
                 pair_symbol(first, second, at)
             } else {
-                Symbol::Other(at)
+                triple_symbol(first, at)
             }
         }
         None => Symbol::Other(at),
@@ -115,7 +192,9 @@ fn symbol_of(src: &[u8], token: Token) -> Symbol
         TokenKind::Text => Symbol::Text(Span { start, end }),
         TokenKind::Inserted => Symbol::Semicolon(start),
         TokenKind::Mark => mark_at(src, start, end),
-        _ => Symbol::Other(start),
+        TokenKind::Whole | TokenKind::Floating | TokenKind::Imaginary | TokenKind::Rune => {
+            Symbol::Literal(token)
+        }
     }
 }
 

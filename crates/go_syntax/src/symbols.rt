@@ -1,3 +1,5 @@
+use go_lexer::Token;
+
 /// An identifier: the span of its text in the source.
 #[derive(Clone, Copy, Debug, PartialEq, Eq)]
 pub struct Ident {
@@ -12,11 +14,39 @@ pub struct Span {
     pub end: u32,
 }
 
+/// An operator of an expression. Some of them stand before one operand and between two.
+#[derive(Clone, Copy, Debug, PartialEq, Eq)]
+pub enum Operator {
+    Or,
+    And,
+    Equal,
+    NotEqual,
+    Less,
+    LessEqual,
+    Greater,
+    GreaterEqual,
+    Plus,
+    Minus,
+    Bar,
+    Caret,
+    Times,
+    Divide,
+    Remainder,
+    ShiftLeft,
+    ShiftRight,
+    Ampersand,
+    /// `&^`
+    Clear,
+    Not,
+}
+
 /// What the grammar sees of a token, with the place of its first byte.
 #[derive(Clone, Copy, Debug, PartialEq, Eq)]
 pub enum Symbol {
     Ident(Ident),
     Text(Span),
+    /// A literal that is no string.
+    Literal(Token),
     /// A semicolon, written or inserted.
     Semicolon(u32),
     Comma(u32),
@@ -29,6 +59,10 @@ pub enum Symbol {
     OpenBrace(u32),
     CloseBrace(u32),
     Star(u32),
+    Bar(u32),
+    Ellipsis(u32),
+    /// An operator of expressions other than the star and the bar.
+    Operator(Operator, u32),
     Arrow(u32),
     Package(u32),
     Import(u32),

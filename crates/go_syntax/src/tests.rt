@@ -72,7 +72,7 @@ const SOURCES: [(&[u8], &str); 42] = [
 ];
 
 /// How many imports and declarations a source has, or its first fault.
-fn shown(alloc: Global, src: &[u8]) -> Result<String, AllocError> {
+pub(crate) fn shown(alloc: Global, src: &[u8]) -> Result<String, AllocError> {
     if src.len() > 4000 {
         return Ok(String::new(alloc));
     }
@@ -120,7 +120,7 @@ fn a_thousand_nodes_are_read_and_no_more(rt: HostRuntime) -> Result<(), Fail> {
 }
 
 /// The tree of a source, as it is printed.
-fn printed(alloc: Global, src: &[u8]) -> Result<String, AllocError> {
+pub(crate) fn printed(alloc: Global, src: &[u8]) -> Result<String, AllocError> {
     if src.len() > 4000 {
         return Ok(String::new(alloc));
     }

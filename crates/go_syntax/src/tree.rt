@@ -1,4 +1,5 @@
-use crate::symbols::{Ident, Span};
+use crate::symbols::{Ident, Operator, Span};
+use go_lexer::Token;
 use sqlite_items::{Boxed, Items};
 
 /// The name of a type, of this package or of another. It begins at `at`.
@@ -7,6 +8,39 @@ pub struct NameExpr {
     pub package: Option<Ident>,
     pub name: Ident,
     pub at: u32,
+}
+
+/// A constant expression as it is written. It begins at `at`.
+#[derive(Debug, Drop)]
+pub enum Expr {
+    Literal {
+        token: Token,
+        at: u32,
+    },
+    Name {
+        name: NameExpr,
+        at: u32,
+    },
+    Convert {
+        to: NameExpr,
+        arg: Boxed<Expr>,
+        at: u32,
+    },
+    Paren {
+        arg: Boxed<Expr>,
+        at: u32,
+    },
+    Unary {
+        op: Operator,
+        arg: Boxed<Expr>,
+        at: u32,
+    },
+    Binary {
+        op: Operator,
+        left: Boxed<Expr>,
+        right: Boxed<Expr>,
+        at: u32,
+    },
 }
 
 /// Fields of a struct that share a type, or an embedded field, which has no names.
@@ -36,6 +70,11 @@ pub enum TypeExpr {
         at: u32,
     },
     Slice {
+        ty: Boxed<TypeExpr>,
+        at: u32,
+    },
+    Array {
+        length: Boxed<Expr>,
         ty: Boxed<TypeExpr>,
         at: u32,
     },

@@ -1,7 +1,8 @@
 ghost use Rattle.std.specs.Prelude.{◌≡◌, ◌<◌, Err};
 ghost use Rattle.go_syntax.specs.Reading.{Exactly, Gives, row, is_close_brace};
-ghost use Rattle.go_syntax.specs.Types.{no_type, embedded_ident, star_by, star_at, embedded_by, shared_by, more_names, first_by, field_by, struct_by, map_by, chan_by, type_by, type_at};
+ghost use Rattle.go_syntax.specs.Types.{no_type, embedded_ident, star_by, star_at, embedded_by, shared_by, more_names, first_by, field_by, struct_by, bracket_by, map_by, chan_by, type_by, type_at};
 
+use crate::expressions::expression;
 use crate::faults::{Fault, Stop};
 use crate::names::{dotted, more_names, tag};
 use crate::reading::{Kind, ident, past, starts};
@@ -192,6 +193,29 @@ fn struct_type(
     Ok((TypeExpr::Struct { fields, at }, rest))
 }
 
+/// A slice or an array, after its bracket.
+#[cycle(types)]
+fn bracketed(
+    alloc: Global,
+    at: u32,
+    tokens: &[Symbol],
+    left: usize,
+) -> Result<(TypeExpr, &[Symbol]), Stop>
+    ensures { Gives (λ x. (x.0, x.1.now)) result (bracket_by left (type_at left) at tokens.now) }
+{
+    if let Ok(rest) = past(Kind::CloseBracket, tokens) {
+        let (ty, rest) = type_expr(alloc, rest, left)?;
+        let ty = Boxed::new(alloc, ty)?;
+        return Ok((TypeExpr::Slice { ty, at }, rest));
+    }
+    let ((length, _), rest) = expression(alloc, tokens, 5, left)?;
+    let rest = past(Kind::CloseBracket, rest)?;
+    let (ty, rest) = type_expr(alloc, rest, left)?;
+    let length = Boxed::new(alloc, length.expr)?;
+    let ty = Boxed::new(alloc, ty)?;
+    Ok((TypeExpr::Array { length, ty, at }, rest))
+}
+
 /// A map type, after its keyword.
 #[cycle(types)]
 fn map_type(
@@ -269,12 +293,7 @@ fn type_inside(alloc: Global, tokens: &[Symbol], left: usize) -> Result<(TypeExp
             let ty = Boxed::new(alloc, ty)?;
             Ok((TypeExpr::Pointer { ty, at }, rest))
         }
-        Symbol::OpenBracket(at) => {
-            let rest = past(Kind::CloseBracket, rest)?;
-            let (ty, rest) = type_expr(alloc, rest, left)?;
-            let ty = Boxed::new(alloc, ty)?;
-            Ok((TypeExpr::Slice { ty, at }, rest))
-        }
+        Symbol::OpenBracket(at) => bracketed(alloc, at, rest, left),
         Symbol::Map(at) => map_type(alloc, at, rest, left),
         Symbol::Chan(at) => chan_type(alloc, at, rest, left),
         Symbol::Arrow(at) => {

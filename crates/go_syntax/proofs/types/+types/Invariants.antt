@@ -4,6 +4,9 @@ use Rattle.go_syntax.specs.Types.{field_by, type_at}
 use Rattle.go_syntax.proofs.Turns.{so_far}
 use Rattle.go_syntax.proofs.types.+types.Given as goal
 
+abbrev pub decreases-bracketed : goal.decreases-bracketed
+decreases-bracketed l = 10 * l.left + 8
+
 abbrev pub decreases-chan_type : goal.decreases-chan_type
 decreases-chan_type l = 10 * l.left + 8
 
