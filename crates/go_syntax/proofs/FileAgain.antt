@@ -1,5 +1,5 @@
 -- A file that is written is read again.
-use Rattle.std.proofs.Common.{◌≡◌, ℕ, max, Bool, true, false, List, [], ◌∷◌, ◌++◌, Ok, refl, arith}
+use Rattle.std.proofs.Common.{◌≡◌, ℕ, max, true, false, List, [], ◌∷◌, ◌++◌, Ok, refl, arith}
 use Rattle.go_syntax.specs.declared.symbols.Symbol.{Symbol}
 use Rattle.go_syntax.specs.declared.symbols.Symbol.TheVariants as t
 use Rattle.go_syntax.specs.declared.symbols.Ident.{Ident}
@@ -7,25 +7,31 @@ use Rattle.go_syntax.specs.declared.tree.Import.{Import}
 use Rattle.go_syntax.specs.declared.tree.Top.{Top}
 use Rattle.go_syntax.specs.declared.tree.TypeExpr.{TypeExpr}
 use Rattle.go_syntax.specs.declared.tree.SourceFile.{SourceFile}
-use Rattle.go_syntax.specs.Reading.{Reply, starts, is_comma, is_assign, is_open_paren, is_close_paren, is_import, is_var, is_type, row}
+use Rattle.go_syntax.specs.Reading.{Reply, starts, is_dot, is_comma, is_assign, is_open_paren, is_close_paren, is_import, is_var, is_type, is_const, row}
 use Rattle.go_syntax.specs.Names as names_of
 use Rattle.go_syntax.specs.Names.{IsNames}
 use Rattle.go_syntax.specs.Types.{begins_type, type_at}
+use Rattle.go_syntax.specs.declared.constants.Written.{Written}
+use Rattle.go_syntax.specs.Constants.{IsConstSpec, counted, const_spec_at}
 use Rattle.go_syntax.specs.Decls as d
 use Rattle.go_syntax.specs.Decls.{vars, defined, alias, source_file, IsImport, IsVarSpec, IsTypeSpec, IsBlock, IsGroup, IsImports, IsTops, IsFileOf}
-use Rattle.go_syntax.specs.Files.{import_at, vars_typed, vars_more, var_spec_at, alias_by, defined_by, type_spec_at, single_at, group_at, decl_end, decl_at, import_step, top_step, imports_at, tops_at, file_tops, file_imports, file_front}
+use Rattle.go_syntax.specs.Files.{import_at, vars_typed, vars_more, var_spec_at, alias_by, defined_by, type_spec_at, single_at, group_at, const_group_at, decl_end, decl_at, import_step, top_step, imports_at, tops_at, file_tops, file_imports, file_front}
 use Rattle.go_syntax.proofs.Rows.{Eats, eats_of}
 use Rattle.go_syntax.proofs.Steps.{Any, steps_is}
+use Rattle.go_syntax.proofs.ConstReads.{no_const, const_reads}
+use Rattle.go_syntax.proofs.ConstAgain.{ends_spec, Ended, const_not_open, const_not_close, const_again}
 use Rattle.go_syntax.proofs.FileReads.{import_reads, no_import_here, var_reads, no_var, spec_reads, no_spec, import_local, top_local}
 use Rattle.go_syntax.proofs.Agreeing.{Agrees, agrees_bind, choose_other, names_again, row_none, row_last, row_more}
 use Rattle.go_syntax.proofs.TypeAgain.{Free, next_so, type_no_comma, type_begins, type_again}
 
 -- ---- specifications
 
-ends_spec : Symbol → Bool
-ends_spec (t.Semicolon s) = true
-ends_spec (t.CloseParen s) = true
-ends_spec _ = false
+ends_dot : (k : Symbol) → ends_spec k ≡ true → is_dot k ≡ false
+ends_dot (t.Dot c) e = absurd cc
+ends_dot _ e = refl
+
+ended_free : (rest : List Symbol) → Ended rest → Free rest
+ended_free rest e = next_so ends_spec is_dot true false rest ends_dot (λ h. refl) e
 
 type_no_assign : (k : Symbol) → begins_type k ≡ true → is_assign k ≡ false
 type_no_assign (t.Assign c) e = absurd cc
@@ -59,7 +65,7 @@ spec_again n m ts x rest (d.renames j i a us ty r b) e = agrees_bind n j ty r n 
 -- what a group needs of its specifications, where n nodes are allowed
 record Items {X : Type 0} (n : ℕ) (F : ℕ → List Symbol → X → List Symbol → Type 0) (one : List Symbol → Reply X) : Type 0 where
   eats_one : Eats one
-  again : (m : ℕ) (ts : List Symbol) (x : X) (rest : List Symbol) → F m ts x rest → Free rest → Agrees n m x rest (one ts)
+  again : (m : ℕ) (ts : List Symbol) (x : X) (rest : List Symbol) → F m ts x rest → Ended rest → Agrees n m x rest (one ts)
   no_open : (m : ℕ) (ts : List Symbol) (x : X) (rest : List Symbol) → F m ts x rest → starts is_open_paren ts ≡ false
   no_close : (m : ℕ) (ts : List Symbol) (x : X) (rest : List Symbol) → F m ts x rest → starts is_close_paren ts ≡ false
 
@@ -69,15 +75,15 @@ block_again n F one I m ts xs rest (d.last_in_block j c us x r a) = row_last is_
 block_again n F one I m ts xs rest (d.more_in_block i j s us vs x ys r a b) =
     row_more is_close_paren one I.eats_one n i j us x s vs ys r (I.no_close i us x (t.Semicolon s ∷ vs) a) refl (I.again i us x (t.Semicolon s ∷ vs) a refl) (block_again n F one I j vs ys r b)
 
-group_again : {X : Type 0} (n : ℕ) (F : ℕ → List Symbol → X → List Symbol → Type 0) (one : List Symbol → Reply X) → Items n F one → (m : ℕ) (ts : List Symbol) (xs : List X) (rest : List Symbol) → IsGroup F m ts xs rest → Free rest → Agrees n m xs rest (group_at one ts)
+group_again : {X : Type 0} (n : ℕ) (F : ℕ → List Symbol → X → List Symbol → Type 0) (one : List Symbol → Reply X) → Items n F one → (m : ℕ) (ts : List Symbol) (xs : List X) (rest : List Symbol) → IsGroup F m ts xs rest → Ended rest → Agrees n m xs rest (group_at one ts)
 group_again n F one I m ts xs rest (d.single j us x r a) e =
     rw (choose_other is_open_paren us (row is_close_paren one) (single_at one us) (I.no_open j us x r a)) (agrees_bind n j x r n j (x ∷ []) r (one us) (λ z ws. Ok (z ∷ [], ws)) (I.again j us x r a e) (λ h. h) (λ f. (refl, refl, f)))
 group_again n F one I m ts xs rest (d.grouped j o us ys r a) e = block_again n F one I j us ys r a
 
-decl_again : {X : Type 0} (n m j : ℕ) (one : List Symbol → Reply X) (more : List Symbol → Reply (List X)) (ts : List Symbol) (xs : List X) (s : ℕ) (us : List Symbol) (ys : List X) (rest : List Symbol) → Agrees n m xs (t.Semicolon s ∷ us) (group_at one ts)
-    → Agrees n j ys rest (more us) → Agrees n (max m j) (xs ++ ys) rest (decl_at one more ts)
-decl_again n m j one more ts xs s us ys rest h g =
-    agrees_bind n m xs (t.Semicolon s ∷ us) n (max m j) (xs ++ ys) rest (group_at one ts) (decl_end more) h (λ e. omega arith)
+decl_again : {X : Type 0} (n m j : ℕ) (group : List Symbol → Reply (List X)) (more : List Symbol → Reply (List X)) (ts : List Symbol) (xs : List X) (s : ℕ) (us : List Symbol) (ys : List X) (rest : List Symbol) → Agrees n m xs (t.Semicolon s ∷ us) (group ts)
+    → Agrees n j ys rest (more us) → Agrees n (max m j) (xs ++ ys) rest (decl_at group more ts)
+decl_again n m j group more ts xs s us ys rest h g =
+    agrees_bind n m xs (t.Semicolon s ∷ us) n (max m j) (xs ++ ys) rest (group ts) (decl_end more) h (λ e. omega arith)
     (λ f. agrees_bind n j ys rest n (max m j) (xs ++ ys) rest (more us) (λ zs vs. Ok (xs ++ zs, vs)) g (λ e. omega arith) (λ w. (refl, refl, omega arith)))
 
 -- ---- imports
@@ -101,7 +107,7 @@ imports_again : (n m : ℕ) (ts : List Symbol) (xs : List Import) (rest : List S
 imports_again n m ts xs rest (d.no_import r) e = rw (steps_is import_step import_local r, import_opens imports_at r e) (refl, refl, omega arith)
 imports_again n m ts xs rest (d.imports_too i j at s us vs ys zs r a b) e =
     rw (steps_is import_step import_local (t.Import at ∷ us))
-    (decl_again n i j import_at imports_at us ys s vs zs r (group_again n IsImport import_at (import_items n) i us ys (t.Semicolon s ∷ vs) a refl) (imports_again n j vs zs r b e))
+    (decl_again n i j (group_at import_at) imports_at us ys s vs zs r (group_again n IsImport import_at (import_items n) i us ys (t.Semicolon s ∷ vs) a refl) (imports_again n j vs zs r b e))
 
 -- ---- declarations
 
@@ -114,7 +120,7 @@ var_not_close m ts x rest (d.of_type j us i names vs ty r (names_of.one i' r') b
 var_not_close m ts x rest (d.of_type j us i names vs ty r (names_of.more i' c ws ns r' q) b) = refl
 
 var_items : (n : ℕ) → Items n IsVarSpec (var_spec_at n)
-var_items n = record { eats_one = eats_of (Any IsVarSpec) (var_spec_at n) no_var (var_reads n); again = var_again n; no_open = var_not_open; no_close = var_not_close }
+var_items n = record { eats_one = eats_of (Any IsVarSpec) (var_spec_at n) no_var (var_reads n); again = λ m ts x rest w e. var_again n m ts x rest w (ended_free rest e); no_open = var_not_open; no_close = var_not_close }
 
 spec_not_open : (m : ℕ) (ts : List Symbol) (x : Top) (rest : List Symbol) → IsTypeSpec m ts x rest → starts is_open_paren ts ≡ false
 spec_not_open m ts x rest (d.defines j i us ty r b) = refl
@@ -125,25 +131,41 @@ spec_not_close m ts x rest (d.defines j i us ty r b) = refl
 spec_not_close m ts x rest (d.renames j i a us ty r b) = refl
 
 spec_items : (n : ℕ) → Items n IsTypeSpec (type_spec_at n)
-spec_items n = record { eats_one = eats_of (Any IsTypeSpec) (type_spec_at n) no_spec (spec_reads n); again = spec_again n; no_open = spec_not_open; no_close = spec_not_close }
+spec_items n = record { eats_one = eats_of (Any IsTypeSpec) (type_spec_at n) no_spec (spec_reads n); again = λ m ts x rest w e. spec_again n m ts x rest w (ended_free rest e); no_open = spec_not_open; no_close = spec_not_close }
 
-top_opens : (n : ℕ) (later : List Symbol → Reply (List Top)) (r : List Symbol) → starts is_var r ≡ false → starts is_type r ≡ false → top_step n later r ≡ Ok ([], r)
-top_opens n later [] e f = refl
-top_opens n later (k ∷ r) e f = rw (e, f) refl
+const_items : (n : ℕ) → Items n IsConstSpec (const_spec_at n)
+const_items n = record {
+  eats_one = eats_of (Any IsConstSpec) (const_spec_at n) no_const (const_reads n);
+  again = λ m ts x rest w e. const_again n m ts x rest w e;
+  no_open = const_not_open;
+  no_close = const_not_close;
+}
 
-tops_again : (n m : ℕ) (ts : List Symbol) (xs : List Top) (rest : List Symbol) → IsTops m ts xs rest → starts is_var rest ≡ false → starts is_type rest ≡ false → Agrees n m xs rest (tops_at n ts)
-tops_again n m ts xs rest (d.no_top r) e f = rw (steps_is (top_step n) (top_local n) r, top_opens n (tops_at n) r e f) (refl, refl, omega arith)
-tops_again n m ts xs rest (d.vars_too i j at s us vs ys zs r a b) e f =
+consts_again : (n m : ℕ) (ts : List Symbol) (ws : List Written) (rest : List Symbol) → IsGroup IsConstSpec m ts ws rest → Ended rest → Agrees n m (counted 0 0 ws) rest (const_group_at n ts)
+consts_again n m ts ws rest a e =
+    agrees_bind n m ws rest n m (counted 0 0 ws) rest (group_at (const_spec_at n) ts) (λ zs vs. Ok (counted 0 0 zs, vs)) (group_again n IsConstSpec (const_spec_at n) (const_items n) m ts ws rest a e) (λ h. h) (λ f. (refl, refl, f))
+
+top_opens : (n : ℕ) (later : List Symbol → Reply (List Top)) (r : List Symbol) → starts is_var r ≡ false → starts is_type r ≡ false → starts is_const r ≡ false → top_step n later r ≡ Ok ([], r)
+top_opens n later [] e f g = refl
+top_opens n later (k ∷ r) e f g = rw (e, f, g) refl
+
+tops_again : (n m : ℕ) (ts : List Symbol) (xs : List Top) (rest : List Symbol) → IsTops m ts xs rest → starts is_var rest ≡ false → starts is_type rest ≡ false → starts is_const rest ≡ false → Agrees n m xs rest (tops_at n ts)
+tops_again n m ts xs rest (d.no_top r) e f g = rw (steps_is (top_step n) (top_local n) r, top_opens n (tops_at n) r e f g) (refl, refl, omega arith)
+tops_again n m ts xs rest (d.vars_too i j at s us vs ys zs r a b) e f g =
     rw (steps_is (top_step n) (top_local n) (t.Var at ∷ us))
-    (decl_again n i j (var_spec_at n) (tops_at n) us ys s vs zs r (group_again n IsVarSpec (var_spec_at n) (var_items n) i us ys (t.Semicolon s ∷ vs) a refl) (tops_again n j vs zs r b e f))
-tops_again n m ts xs rest (d.types_too i j at s us vs ys zs r a b) e f =
+    (decl_again n i j (group_at (var_spec_at n)) (tops_at n) us ys s vs zs r (group_again n IsVarSpec (var_spec_at n) (var_items n) i us ys (t.Semicolon s ∷ vs) a refl) (tops_again n j vs zs r b e f g))
+tops_again n m ts xs rest (d.types_too i j at s us vs ys zs r a b) e f g =
     rw (steps_is (top_step n) (top_local n) (t.Type at ∷ us))
-    (decl_again n i j (type_spec_at n) (tops_at n) us ys s vs zs r (group_again n IsTypeSpec (type_spec_at n) (spec_items n) i us ys (t.Semicolon s ∷ vs) a refl) (tops_again n j vs zs r b e f))
+    (decl_again n i j (group_at (type_spec_at n)) (tops_at n) us ys s vs zs r (group_again n IsTypeSpec (type_spec_at n) (spec_items n) i us ys (t.Semicolon s ∷ vs) a refl) (tops_again n j vs zs r b e f g))
+tops_again n m ts xs rest (d.consts_too i j at s us vs ws zs r a b) e f g =
+    rw (steps_is (top_step n) (top_local n) (t.Const at ∷ us))
+    (decl_again n i j (const_group_at n) (tops_at n) us (counted 0 0 ws) s vs zs r (consts_again n i us ws (t.Semicolon s ∷ vs) a refl) (tops_again n j vs zs r b e f g))
 
 tops_no_import : (m : ℕ) (ts : List Symbol) (xs : List Top) (rest : List Symbol) → IsTops m ts xs rest → starts is_import rest ≡ false → starts is_import ts ≡ false
 tops_no_import m ts xs rest (d.no_top r) e = e
 tops_no_import m ts xs rest (d.vars_too i j at s us vs ys zs r a b) e = refl
 tops_no_import m ts xs rest (d.types_too i j at s us vs ys zs r a b) e = refl
+tops_no_import m ts xs rest (d.consts_too i j at s us vs ws zs r a b) e = refl
 
 -- ---- files
 
@@ -153,7 +175,7 @@ after_clause n m j i ts us imports tops rest h g =
     agrees_bind n m imports us n (max m j) (source_file i imports tops) rest (imports_at ts) (file_tops n i) h (λ e. omega arith)
     (λ f. agrees_bind n j tops rest n (max m j) (source_file i imports tops) rest (tops_at n us) (λ zs vs. Ok (source_file i imports zs, vs)) g (λ e. omega arith) (λ w. (refl, refl, omega arith)))
 
-pub file_again : (n m : ℕ) (ts : List Symbol) (f : SourceFile) (rest : List Symbol) → IsFileOf m ts f rest → starts is_import rest ≡ false → starts is_var rest ≡ false → starts is_type rest ≡ false → Agrees n m f rest (file_front n ts)
+pub file_again : (n m : ℕ) (ts : List Symbol) (f : SourceFile) (rest : List Symbol) → IsFileOf m ts f rest → starts is_import rest ≡ false → starts is_var rest ≡ false → starts is_type rest ≡ false → starts is_const rest ≡ false → Agrees n m f rest (file_front n ts)
 unfolding file_front
-file_again n m ts f rest (d.file i j at x s us vs imports tops r a b) e v w =
-    after_clause n i j x us vs imports tops r (imports_again n i us imports vs a (tops_no_import j vs tops r b e)) (tops_again n j vs tops r b v w)
+file_again n m ts f rest (d.file i j at x s us vs imports tops r a b) e v w c =
+    after_clause n i j x us vs imports tops r (imports_again n i us imports vs a (tops_no_import j vs tops r b e)) (tops_again n j vs tops r b v w c)

@@ -1,5 +1,5 @@
 -- What the readers of declarations and files do.
-use Rattle.std.proofs.Common.{◌≡◌, ℕ, max, ◌<◌, Bool, true, false, if◌then◌else◌, List, [], ◌∷◌, length, Some, None, Ok, refl, sym, subst, arith}
+use Rattle.std.proofs.Common.{◌≡◌, ℕ, max, ◌<◌, List, [], ◌∷◌, length, Some, None, Ok, refl, sym, subst, arith}
 use Rattle.go_syntax.specs.declared.symbols.Symbol.{Symbol}
 use Rattle.go_syntax.specs.declared.symbols.Symbol.TheVariants as t
 use Rattle.go_syntax.specs.declared.symbols.Ident.{Ident}
@@ -8,19 +8,22 @@ use Rattle.go_syntax.specs.declared.faults.Fault.TheVariants.{DotImport}
 use Rattle.go_syntax.specs.declared.tree.Import.{Import}
 use Rattle.go_syntax.specs.declared.tree.Top.{Top}
 use Rattle.go_syntax.specs.declared.tree.SourceFile.{SourceFile}
-use Rattle.go_syntax.specs.Reading.{Reply, ◌>>=◌, unexpected, past, choose, is_package, is_semicolon, is_comma, is_assign, is_import, is_var, is_type}
+use Rattle.go_syntax.specs.Reading.{Reply, ◌>>=◌, past, choose, is_package, is_semicolon, is_comma, is_assign, is_import, is_var, is_type, is_const}
 use Rattle.go_syntax.specs.Names.{IsNames, one, more, ident_at, names_at}
 use Rattle.go_syntax.specs.Types.{type_at}
+use Rattle.go_syntax.specs.declared.constants.Written.{Written}
+use Rattle.go_syntax.specs.Constants.{IsConstSpec, counted, const_spec_at}
 use Rattle.go_syntax.specs.Decls as d
-use Rattle.go_syntax.specs.Decls.{import, vars, defined, alias, source_file, IsImport, IsVarSpec, IsTypeSpec, IsImports, IsTops, IsFileOf}
-use Rattle.go_syntax.specs.Files.{text_at, named_import, dot_import, import_at, vars_typed, vars_more, vars_first, var_spec_at, alias_by, defined_by, type_first, type_spec_at, decl_at, import_step, top_step, imports_at, tops_at, file_tops, file_imports, file_clause, file_name, file_front}
+use Rattle.go_syntax.specs.Decls.{import, vars, defined, alias, source_file, IsImport, IsVarSpec, IsTypeSpec, IsGroup, IsImports, IsTops, IsFileOf}
+use Rattle.go_syntax.specs.Files.{text_at, named_import, dot_import, import_at, vars_typed, vars_more, vars_first, var_spec_at, alias_by, defined_by, type_first, type_spec_at, group_at, const_group_at, decl_at, import_step, top_step, imports_at, tops_at, file_tops, file_imports, file_clause, file_name, file_front}
 use Rattle.go_syntax.proofs.Viable.{next_is, ReadsAt, Sample, Behind, Past, After, done_reads, refuse_reads, refuse_next, refuse_end, like_reads, as_reads, cons_reads, past_reads, choose_reads_on, choose_reads, bind_reads, value_reads}
-use Rattle.go_syntax.proofs.Marks.{semicolon, comma, assign, import_word, var_word, type_word, package_word}
+use Rattle.go_syntax.proofs.Marks.{semicolon, comma, assign, import_word, var_word, type_word, const_word, package_word}
 use Rattle.go_syntax.proofs.NameReads.{IsIdent, any_ident, ident_reads, names_reads, no_names}
 use Rattle.go_syntax.proofs.FieldReads.{TypeAt, some_type, through_value}
 use Rattle.go_syntax.proofs.TypeReads.{type_reads}
-use Rattle.go_syntax.proofs.Rows.{Eats, eats_of}
-use Rattle.go_syntax.proofs.Steps.{Local, steps_read, Any, decl_same, decl_reads}
+use Rattle.go_syntax.proofs.ConstReads.{no_const, const_reads}
+use Rattle.go_syntax.proofs.Rows.{Eats, eats_of, choose_same}
+use Rattle.go_syntax.proofs.Steps.{Local, steps_read, Any, group_reads, decl_same, decl_reads}
 
 -- ---- imports
 
@@ -131,24 +134,39 @@ no_spec x us w = no_spec_of w.0 x us w.1
 
 -- ---- rows of declarations
 
-import_same : (f g : List Symbol → Reply (List Import)) (ts : List Symbol) → ((vs : List Symbol) → length vs < length ts → f vs ≡ g vs) → decl_at import_at f ts ≡ decl_at import_at g ts
-import_same f g ts h = decl_same IsImport import_at no_import_here import_reads f g ts h
+-- groups
 
-if_same : {X : Type 0} (b : Bool) (k : Symbol) (f g : List Symbol → Reply X) (x y : Reply X) (ts : List Symbol) → f ts ≡ g ts → x ≡ y → choose (if b then Ok ts else unexpected (k ∷ ts)) f x ≡ choose (if b then Ok ts else unexpected (k ∷ ts)) g y
-if_same true k f g x y ts h e = h
-if_same false k f g x y ts h e = e
+pub import_groups : (ts : List Symbol) → ReadsAt (Any (IsGroup IsImport)) (group_at import_at) ts (group_at import_at ts)
+import_groups ts = group_reads IsImport import_at no_import_here import_reads ts
 
-choose_same : {X : Type 0} (is : Symbol → Bool) (f g : List Symbol → Reply X) (a b : Reply X) (ts : List Symbol) → ((us : List Symbol) → length us < length ts → f us ≡ g us) → a ≡ b → choose (past is ts) f a ≡ choose (past is ts) g b
-choose_same is f g a b [] h e = e
-choose_same is f g a b (k ∷ ts) h e = if_same (is k) k f g a b ts (h ts (omega arith)) e
+pub var_groups : (n : ℕ) (ts : List Symbol) → ReadsAt (Any (IsGroup IsVarSpec)) (group_at (var_spec_at n)) ts (group_at (var_spec_at n) ts)
+var_groups n ts = group_reads IsVarSpec (var_spec_at n) no_var (var_reads n) ts
+
+pub type_groups : (n : ℕ) (ts : List Symbol) → ReadsAt (Any (IsGroup IsTypeSpec)) (group_at (type_spec_at n)) ts (group_at (type_spec_at n) ts)
+type_groups n ts = group_reads IsTypeSpec (type_spec_at n) no_spec (spec_reads n) ts
+
+-- a group of constants, counted
+abbrev pub ConstsAt : List Symbol → List Top → List Symbol → Type 0
+ConstsAt ts xs rest = (ws : List Written) × (xs ≡ counted 0 0 ws) × Any (IsGroup IsConstSpec) ts ws rest
+
+pub const_groups : (n : ℕ) (ts : List Symbol) → ReadsAt ConstsAt (const_group_at n) ts (const_group_at n ts)
+const_groups n ts =
+    value_reads (Any (IsGroup IsConstSpec)) ConstsAt (group_at (const_spec_at n)) (counted 0 0) ts (λ us ws rest w. (ws, refl, w)) (group_at (const_spec_at n) ts)
+    (group_reads IsConstSpec (const_spec_at n) no_const (const_reads n) ts)
 
 pub import_local : Local import_step
-import_local f g ts h = choose_same is_import (decl_at import_at f) (decl_at import_at g) (Ok ([], ts)) (Ok ([], ts)) ts (λ us less. import_same f g us (λ vs fewer. h vs (omega arith))) refl
+import_local f g ts h =
+    choose_same is_import (decl_at (group_at import_at) f) (decl_at (group_at import_at) g) (Ok ([], ts)) (Ok ([], ts)) ts
+    (λ us less. decl_same (Any (IsGroup IsImport)) (group_at import_at) import_groups f g us (λ vs fewer. h vs (omega arith))) refl
 
 pub top_local : (n : ℕ) → Local (top_step n)
 top_local n f g ts h =
-    choose_same is_var (decl_at (var_spec_at n) f) (decl_at (var_spec_at n) g) _ _ ts (λ us less. decl_same IsVarSpec (var_spec_at n) no_var (var_reads n) f g us (λ vs fewer. h vs (omega arith)))
-    (choose_same is_type (decl_at (type_spec_at n) f) (decl_at (type_spec_at n) g) (Ok ([], ts)) (Ok ([], ts)) ts (λ us less. decl_same IsTypeSpec (type_spec_at n) no_spec (spec_reads n) f g us (λ vs fewer. h vs (omega arith))) refl)
+    choose_same is_var (decl_at (group_at (var_spec_at n)) f) (decl_at (group_at (var_spec_at n)) g) _ _ ts
+    (λ us less. decl_same (Any (IsGroup IsVarSpec)) (group_at (var_spec_at n)) (var_groups n) f g us (λ vs fewer. h vs (omega arith)))
+    (choose_same is_type (decl_at (group_at (type_spec_at n)) f) (decl_at (group_at (type_spec_at n)) g) _ _ ts
+    (λ us less. decl_same (Any (IsGroup IsTypeSpec)) (group_at (type_spec_at n)) (type_groups n) f g us (λ vs fewer. h vs (omega arith)))
+    (choose_same is_const (decl_at (const_group_at n) f) (decl_at (const_group_at n) g) (Ok ([], ts)) (Ok ([], ts)) ts
+    (λ us less. decl_same ConstsAt (const_group_at n) (const_groups n) f g us (λ vs fewer. h vs (omega arith))) refl))
 
 abbrev ImportsAt : List Symbol → List Import → List Symbol → Type 0
 ImportsAt = Any IsImports
@@ -158,20 +176,37 @@ TopsAt = Any IsTops
 
 import_step_reads : (later : List Symbol → Reply (List Import)) (ts : List Symbol) → ((vs : List Symbol) → length vs < length ts → ReadsAt ImportsAt later vs (later vs)) → ReadsAt ImportsAt (import_step later) ts (import_step later ts)
 import_step_reads later ts h =
-    choose_reads_on is_import ImportsAt import_word (decl_at import_at later) (λ us. Ok ([], us)) ts
-    (λ us less. decl_reads IsImport import_at no_import_here import_reads ImportsAt (Past import_word ImportsAt) later us
+    choose_reads_on is_import ImportsAt import_word (decl_at (group_at import_at) later) (λ us. Ok ([], us)) ts
+    (λ us less. decl_reads (Any (IsGroup IsImport)) (group_at import_at) import_groups ImportsAt (Past import_word ImportsAt) later us
     (λ vs xs s ws ys rest w v at. (max w.0 v.0, d.imports_too w.0 v.0 at s vs ws xs ys rest w.1 v.1)) (λ rest. (0, d.no_import rest)) (λ vs fewer. h vs (omega arith)))
     (λ e. done_reads ImportsAt (λ us. Ok ([], us)) ts [] (λ tail. (0, d.no_import tail)) (λ r e'. refl))
 
+-- types or constants, or no more
+abbrev types_or : ℕ → (List Symbol → Reply (List Top)) → List Symbol → Reply (List Top)
+types_or n later us = choose (past is_type us) (decl_at (group_at (type_spec_at n)) later) (choose (past is_const us) (decl_at (const_group_at n) later) (Ok ([], us)))
+
+const_step_reads : (n : ℕ) (later : List Symbol → Reply (List Top)) (ts : List Symbol) → ((vs : List Symbol) → length vs < length ts → ReadsAt TopsAt later vs (later vs))
+    → ReadsAt TopsAt (λ us. choose (past is_const us) (decl_at (const_group_at n) later) (Ok ([], us))) ts (choose (past is_const ts) (decl_at (const_group_at n) later) (Ok ([], ts)))
+const_step_reads n later ts h =
+    choose_reads_on is_const TopsAt const_word (decl_at (const_group_at n) later) (λ us. Ok ([], us)) ts
+    (λ us less. decl_reads ConstsAt (const_group_at n) (const_groups n) TopsAt (Past const_word TopsAt) later us
+    (λ vs xs s ws ys rest w v at. rw w.1 (max w.2.0 v.0, d.consts_too w.2.0 v.0 at s vs ws w.0 ys rest w.2.1 v.1)) (λ rest. (0, d.no_top rest)) (λ vs fewer. h vs (omega arith)))
+    (λ e. done_reads TopsAt (λ us. Ok ([], us)) ts [] (λ tail. (0, d.no_top tail)) (λ r e'. refl))
+
+type_step_reads : (n : ℕ) (later : List Symbol → Reply (List Top)) (ts : List Symbol) → ((vs : List Symbol) → length vs < length ts → ReadsAt TopsAt later vs (later vs))
+    → ReadsAt TopsAt (types_or n later) ts (types_or n later ts)
+type_step_reads n later ts h =
+    choose_reads_on is_type TopsAt type_word (decl_at (group_at (type_spec_at n)) later) (λ us. choose (past is_const us) (decl_at (const_group_at n) later) (Ok ([], us))) ts
+    (λ us less. decl_reads (Any (IsGroup IsTypeSpec)) (group_at (type_spec_at n)) (type_groups n) TopsAt (Past type_word TopsAt) later us
+    (λ vs xs s ws ys rest w v at. (max w.0 v.0, d.types_too w.0 v.0 at s vs ws xs ys rest w.1 v.1)) (λ rest. (0, d.no_top rest)) (λ vs fewer. h vs (omega arith)))
+    (λ e. const_step_reads n later ts h)
+
 top_step_reads : (n : ℕ) (later : List Symbol → Reply (List Top)) (ts : List Symbol) → ((vs : List Symbol) → length vs < length ts → ReadsAt TopsAt later vs (later vs)) → ReadsAt TopsAt (top_step n later) ts (top_step n later ts)
 top_step_reads n later ts h =
-    choose_reads_on is_var TopsAt var_word (decl_at (var_spec_at n) later) (λ us. choose (past is_type us) (decl_at (type_spec_at n) later) (Ok ([], us))) ts
-    (λ us less. decl_reads IsVarSpec (var_spec_at n) no_var (var_reads n) TopsAt (Past var_word TopsAt) later us
+    choose_reads_on is_var TopsAt var_word (decl_at (group_at (var_spec_at n)) later) (types_or n later) ts
+    (λ us less. decl_reads (Any (IsGroup IsVarSpec)) (group_at (var_spec_at n)) (var_groups n) TopsAt (Past var_word TopsAt) later us
     (λ vs xs s ws ys rest w v at. (max w.0 v.0, d.vars_too w.0 v.0 at s vs ws xs ys rest w.1 v.1)) (λ rest. (0, d.no_top rest)) (λ vs fewer. h vs (omega arith)))
-    (λ e. choose_reads_on is_type TopsAt type_word (decl_at (type_spec_at n) later) (λ us. Ok ([], us)) ts
-    (λ us less. decl_reads IsTypeSpec (type_spec_at n) no_spec (spec_reads n) TopsAt (Past type_word TopsAt) later us
-    (λ vs xs s ws ys rest w v at. (max w.0 v.0, d.types_too w.0 v.0 at s vs ws xs ys rest w.1 v.1)) (λ rest. (0, d.no_top rest)) (λ vs fewer. h vs (omega arith)))
-    (λ e'. done_reads TopsAt (λ us. Ok ([], us)) ts [] (λ tail. (0, d.no_top tail)) (λ r e''. refl)))
+    (λ e. type_step_reads n later ts h)
 
 pub imports_read : (ts : List Symbol) → ReadsAt ImportsAt imports_at ts (imports_at ts)
 imports_read ts = steps_read ImportsAt import_step import_local import_step_reads ts

@@ -12,8 +12,11 @@ pub mod Agreeing
 pub mod ExprAgain
 pub mod TypeAgain
 pub mod Steps
+pub mod ConstReads
 pub mod FileReads
 pub mod NameTurns
+pub mod ConstTurns
+pub mod ConstAgain
 pub mod FileAgain
 pub mod Laws
 pub mod StepTurns

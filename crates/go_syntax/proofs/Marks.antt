@@ -2,7 +2,7 @@
 use Rattle.std.proofs.Common.{◌≡◌, ℕ, true, refl}
 use Rattle.go_syntax.specs.declared.symbols.Symbol.{Symbol}
 use Rattle.go_syntax.specs.declared.symbols.Symbol.TheVariants as t
-use Rattle.go_syntax.specs.Reading.{is_semicolon, is_comma, is_arrow, is_dot, is_close_paren, is_open_bracket, is_close_bracket, is_open_brace, is_close_brace, is_chan, is_package, is_open_paren, is_assign, is_import, is_var, is_type}
+use Rattle.go_syntax.specs.Reading.{is_semicolon, is_comma, is_arrow, is_dot, is_close_paren, is_open_bracket, is_close_bracket, is_open_brace, is_close_brace, is_chan, is_package, is_open_paren, is_assign, is_import, is_var, is_type, is_const}
 use Rattle.go_syntax.proofs.Viable.{Kind}
 
 pub only_semicolon : (k : Symbol) → is_semicolon k ≡ true → (at : ℕ) × (k ≡ t.Semicolon at)
@@ -116,3 +116,10 @@ only_type _ h = absurd cc
 
 abbrev pub type_word : Kind is_type
 type_word = record { make = t.Type; holds = λ at. refl; only = only_type }
+
+pub only_const : (k : Symbol) → is_const k ≡ true → (at : ℕ) × (k ≡ t.Const at)
+only_const (t.Const at) h = (at, refl)
+only_const _ h = absurd cc
+
+abbrev pub const_word : Kind is_const
+const_word = record { make = t.Const; holds = λ at. refl; only = only_const }

@@ -20,6 +20,14 @@ pub past_shorter : (is : Symbol → Bool) (ts rest : List Symbol) → past is ts
 past_shorter is [] rest e = absurd cc
 past_shorter is (k ∷ ts) rest e = past_if (is k) k ts rest e
 
+if_same : {X : Type 0} (b : Bool) (k : Symbol) (f g : List Symbol → Reply X) (x y : Reply X) (ts : List Symbol) → f ts ≡ g ts → x ≡ y → choose (if b then Ok ts else unexpected (k ∷ ts)) f x ≡ choose (if b then Ok ts else unexpected (k ∷ ts)) g y
+if_same true k f g x y ts h e = h
+if_same false k f g x y ts h e = e
+
+pub choose_same : {X : Type 0} (is : Symbol → Bool) (f g : List Symbol → Reply X) (a b : Reply X) (ts : List Symbol) → ((us : List Symbol) → length us < length ts → f us ≡ g us) → a ≡ b → choose (past is ts) f a ≡ choose (past is ts) g b
+choose_same is f g a b [] h e = e
+choose_same is f g a b (k ∷ ts) h e = if_same (is k) k f g a b ts (h ts (omega arith)) e
+
 -- each item takes a token
 abbrev pub Eats : {X : Type 0} → (List Symbol → Reply X) → Type 0
 Eats {X} one = (ts : List Symbol) (z : X × List Symbol) → one ts ≡ Ok z → length z.1 < length ts

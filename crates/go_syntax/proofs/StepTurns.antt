@@ -7,13 +7,13 @@ use Rattle.go_syntax.specs.declared.tree.Import.{Import}
 use Rattle.go_syntax.specs.declared.tree.Top.{Top}
 use Rattle.go_syntax.specs.declared.faults.Stop.{Stop}
 use Rattle.go_syntax.specs.declared.faults.Stop.TheVariants as stop
-use Rattle.go_syntax.specs.Reading.{Fails, Reply, ◌>>=◌, past, choose, is_semicolon, is_import, is_var, is_type}
-use Rattle.go_syntax.specs.Decls.{IsImport, IsVarSpec, IsTypeSpec}
-use Rattle.go_syntax.specs.Files.{import_at, var_spec_at, type_spec_at, group_at, steps, decl_more, decl_end, decl_at, import_step, top_step, some_semicolon, some_decl, no_decl, import_decl, top_decl, step_end}
+use Rattle.go_syntax.specs.Reading.{Fails, Reply, ◌>>=◌, past, choose, steps, is_semicolon, is_import, is_var, is_type, is_const}
+use Rattle.go_syntax.specs.Decls.{IsImport, IsVarSpec, IsTypeSpec, IsGroup}
+use Rattle.go_syntax.specs.Files.{import_at, var_spec_at, type_spec_at, group_at, const_group_at, decl_more, decl_end, decl_at, import_step, top_step, some_semicolon, some_decl, no_decl, import_decl, top_decl, step_end}
 use Rattle.go_syntax.proofs.Viable.{ReadsAt}
 use Rattle.go_syntax.proofs.Rows.{past_shorter}
 use Rattle.go_syntax.proofs.Steps.{Local, steps_is, Any, decl_local_at}
-use Rattle.go_syntax.proofs.FileReads.{import_reads, no_import_here, var_reads, no_var, spec_reads, no_spec, import_local, top_local}
+use Rattle.go_syntax.proofs.FileReads.{import_groups, var_groups, type_groups, ConstsAt, const_groups, import_local, top_local}
 use Rattle.go_syntax.proofs.Turns.{with_front}
 
 -- a declaration, and then more of them
@@ -37,12 +37,13 @@ choose_is more (Ok us) q p a b h e = h us
 choose_is more (Err f) q p a b h e = e
 
 import_is : (more : List Symbol → Reply (List Import)) (ts : List Symbol) → then_more more (import_decl ts) ≡ import_step more ts
-import_is more ts = choose_is more (past is_import ts) (some_decl import_at) (decl_at import_at more) (no_decl ts) (Ok ([], ts)) (λ us. decl_is more (group_at import_at us)) refl
+import_is more ts = choose_is more (past is_import ts) (some_decl (group_at import_at)) (decl_at (group_at import_at) more) (no_decl ts) (Ok ([], ts)) (λ us. decl_is more (group_at import_at us)) refl
 
 top_is : (n : ℕ) (more : List Symbol → Reply (List Top)) (ts : List Symbol) → then_more more (top_decl n ts) ≡ top_step n more ts
 top_is n more ts =
-    choose_is more (past is_var ts) (some_decl (var_spec_at n)) (decl_at (var_spec_at n) more) _ _ (λ us. decl_is more (group_at (var_spec_at n) us))
-    (choose_is more (past is_type ts) (some_decl (type_spec_at n)) (decl_at (type_spec_at n) more) (no_decl ts) (Ok ([], ts)) (λ us. decl_is more (group_at (type_spec_at n) us)) refl)
+    choose_is more (past is_var ts) (some_decl (group_at (var_spec_at n))) (decl_at (group_at (var_spec_at n)) more) _ _ (λ us. decl_is more (group_at (var_spec_at n) us))
+    (choose_is more (past is_type ts) (some_decl (group_at (type_spec_at n))) (decl_at (group_at (type_spec_at n)) more) _ _ (λ us. decl_is more (group_at (type_spec_at n) us))
+    (choose_is more (past is_const ts) (some_decl (const_group_at n)) (decl_at (const_group_at n) more) (no_decl ts) (Ok ([], ts)) (λ us. decl_is more (const_group_at n us)) refl))
 
 -- what reads one declaration is a step's first part
 pub record Steps {X : Type 0} (one : List Symbol → Reply (Option (List X))) (step : (List Symbol → Reply (List X)) → List Symbol → Reply (List X)) : Type 0 where
@@ -94,13 +95,13 @@ semicolon_smaller : {X : Type 0} (xs ys : List X) (ts us : List Symbol) (r : Res
 semicolon_smaller xs ys ts us (Ok vs) p e = let same : vs ≡ us = ap left_of e in rw (sym same) (past_shorter is_semicolon ts vs p)
 semicolon_smaller xs ys ts us (Err f) p e = absurd cc
 
-some_smaller : {X : Type 0} (F : ℕ → List Symbol → X → List Symbol → Type 0) (one : List Symbol → Reply X) → ((x : X) (us : List Symbol) → Any F [] x us → ⊥) → ((us : List Symbol) → ReadsAt (Any F) one us (one us))
-    → (ts : List Symbol) (ys : List X) (us : List Symbol) (r : Reply (List X)) → group_at one ts ≡ r → (r >>= λ xs. some_semicolon xs.0 xs.1) ≡ got ys us → length us < length ts
-some_smaller F one never item ts ys us (Ok z) p e =
-    let a : length z.1 ≤ length ts = decl_local_at F one never item ts z p in
+some_smaller : {X : Type 0} (G : List Symbol → List X → List Symbol → Type 0) (group : List Symbol → Reply (List X)) → ((us : List Symbol) → ReadsAt G group us (group us))
+    → (ts : List Symbol) (ys : List X) (us : List Symbol) (r : Reply (List X)) → group ts ≡ r → (r >>= λ xs. some_semicolon xs.0 xs.1) ≡ got ys us → length us < length ts
+some_smaller G group item ts ys us (Ok z) p e =
+    let a : length z.1 ≤ length ts = decl_local_at G group item ts z p in
     let b : length us < length z.1 = semicolon_smaller z.0 ys z.1 us (past is_semicolon z.1) refl e in
     omega arith
-some_smaller F one never item ts ys us (Err f) p e = absurd cc
+some_smaller G group item ts ys us (Err f) p e = absurd cc
 
 choose_smaller : {X : Type 0} (is : Symbol → Bool) (ts : List Symbol) (q : List Symbol → Reply (Option (List X))) (other : Reply (Option (List X))) (ys : List X) (us : List Symbol) (r : Result (List Symbol) Fault) → past is ts ≡ r
     → ((vs : List Symbol) → q vs ≡ got ys us → length us < length vs) → (other ≡ got ys us → length us < length ts) → choose r q other ≡ got ys us → length us < length ts
@@ -125,18 +126,20 @@ pub import_steps : Steps import_decl import_step
 import_steps = record {
   local = import_local;
   parts = import_is;
-  smaller = λ ts xs us e. choose_smaller is_import ts (some_decl import_at) (no_decl ts) xs us (past is_import ts) refl
-      (λ vs h. some_smaller IsImport import_at no_import_here import_reads vs xs us (group_at import_at vs) refl h) (λ h. absurd (none_is_none ts xs us h)) e;
+  smaller = λ ts xs us e. choose_smaller is_import ts (some_decl (group_at import_at)) (no_decl ts) xs us (past is_import ts) refl
+      (λ vs h. some_smaller (Any (IsGroup IsImport)) (group_at import_at) import_groups vs xs us (group_at import_at vs) refl h) (λ h. absurd (none_is_none ts xs us h)) e;
 }
 
 pub top_steps : (n : ℕ) → Steps (top_decl n) (top_step n)
 top_steps n = record {
   local = top_local n;
   parts = top_is n;
-  smaller = λ ts xs us e. choose_smaller is_var ts (some_decl (var_spec_at n)) _ xs us (past is_var ts) refl
-      (λ vs h. some_smaller IsVarSpec (var_spec_at n) no_var (var_reads n) vs xs us (group_at (var_spec_at n) vs) refl h)
-      (λ o. choose_smaller is_type ts (some_decl (type_spec_at n)) (no_decl ts) xs us (past is_type ts) refl
-      (λ vs h. some_smaller IsTypeSpec (type_spec_at n) no_spec (spec_reads n) vs xs us (group_at (type_spec_at n) vs) refl h) (λ h. absurd (none_is_none ts xs us h)) o) e;
+  smaller = λ ts xs us e. choose_smaller is_var ts (some_decl (group_at (var_spec_at n))) _ xs us (past is_var ts) refl
+      (λ vs h. some_smaller (Any (IsGroup IsVarSpec)) (group_at (var_spec_at n)) (var_groups n) vs xs us (group_at (var_spec_at n) vs) refl h)
+      (λ o. choose_smaller is_type ts (some_decl (group_at (type_spec_at n))) _ xs us (past is_type ts) refl
+      (λ vs h. some_smaller (Any (IsGroup IsTypeSpec)) (group_at (type_spec_at n)) (type_groups n) vs xs us (group_at (type_spec_at n) vs) refl h)
+      (λ p. choose_smaller is_const ts (some_decl (const_group_at n)) (no_decl ts) xs us (past is_const ts) refl
+      (λ vs h. some_smaller ConstsAt (const_group_at n) (const_groups n) vs xs us (const_group_at n vs) refl h) (λ h. absurd (none_is_none ts xs us h)) p) o) e;
 }
 
 -- ---- the same of what a call answered

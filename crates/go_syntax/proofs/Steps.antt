@@ -2,38 +2,38 @@
 use Rattle.std.proofs.Common.{◌≡◌, ℕ, zero, suc, ◌<◌, ◌≤◌, List, [], ◌∷◌, ◌++◌, length, Ok, sym, ap, subst, arith, length-append}
 use Rattle.go_syntax.specs.declared.symbols.Symbol.{Symbol}
 use Rattle.go_syntax.specs.declared.symbols.Symbol.TheVariants as t
-use Rattle.go_syntax.specs.Reading.{Reply, ◌>>=◌, past, is_semicolon, is_open_paren, is_close_paren, row}
+use Rattle.go_syntax.specs.Reading.{Reply, ◌>>=◌, past, is_semicolon, is_open_paren, is_close_paren, row, steps_of, steps}
 use Rattle.go_syntax.specs.Decls as d
 use Rattle.go_syntax.specs.Decls.{IsBlock, IsGroup}
-use Rattle.go_syntax.specs.Files.{single_at, group_at, steps_of, steps, decl_more, decl_end, decl_at}
+use Rattle.go_syntax.specs.Files.{single_at, group_at, decl_more, decl_end, decl_at}
 use Rattle.go_syntax.proofs.Viable.{ReadOk, ReadsAt, Past, After, like_reads, as_reads, choose_reads, past_reads, bind_reads, value_reads}
 use Rattle.go_syntax.proofs.Marks.{semicolon, open_paren, close_paren}
 use Rattle.go_syntax.proofs.Rows.{IsRow, row_reads, bind_same, past_shorter}
 
 -- a step asks for what comes later alone
-abbrev pub Local : {X : Type 0} → ((List Symbol → Reply (List X)) → List Symbol → Reply (List X)) → Type 0
-Local {X} step = (f g : List Symbol → Reply (List X)) (ts : List Symbol) → ((vs : List Symbol) → length vs < length ts → f vs ≡ g vs) → step f ts ≡ step g ts
+abbrev pub Local : {Y : Type 0} → ((List Symbol → Reply Y) → List Symbol → Reply Y) → Type 0
+Local {Y} step = (f g : List Symbol → Reply Y) (ts : List Symbol) → ((vs : List Symbol) → length vs < length ts → f vs ≡ g vs) → step f ts ≡ step g ts
 
-enough : {X : Type 0} (step : (List Symbol → Reply (List X)) → List Symbol → Reply (List X)) → Local step → (f g : ℕ) (ts : List Symbol) → length ts < f → length ts < g → steps_of f step ts ≡ steps_of g step ts
+enough : {Y : Type 0} (step : (List Symbol → Reply Y) → List Symbol → Reply Y) → Local step → (f g : ℕ) (ts : List Symbol) → length ts < f → length ts < g → steps_of f step ts ≡ steps_of g step ts
 unfolding steps_of
 enough step local zero g ts a b = absurd (omega arith)
 enough step local (suc f) zero ts a b = absurd (omega arith)
 enough step local (suc f) (suc g) ts a b = local (steps_of f step) (steps_of g step) ts (λ vs less. enough step local f g vs (omega arith) (omega arith))
 
-pub steps_is : {X : Type 0} (step : (List Symbol → Reply (List X)) → List Symbol → Reply (List X)) → Local step → (ts : List Symbol) → steps step ts ≡ step (steps step) ts
+pub steps_is : {Y : Type 0} (step : (List Symbol → Reply Y) → List Symbol → Reply Y) → Local step → (ts : List Symbol) → steps step ts ≡ step (steps step) ts
 unfolding steps_of
 steps_is step local ts = local (steps_of (length ts) step) (steps step) ts (λ vs less. enough step local (length ts) (suc (length vs)) vs less (omega arith))
 
-steps_up : {X : Type 0} (Q : List Symbol → List X → List Symbol → Type 0) (step : (List Symbol → Reply (List X)) → List Symbol → Reply (List X)) → Local step
-    → ((more : List Symbol → Reply (List X)) (ts : List Symbol) → ((vs : List Symbol) → length vs < length ts → ReadsAt Q more vs (more vs)) → ReadsAt Q (step more) ts (step more ts))
+steps_up : {Y : Type 0} (Q : List Symbol → Y → List Symbol → Type 0) (step : (List Symbol → Reply Y) → List Symbol → Reply Y) → Local step
+    → ((more : List Symbol → Reply Y) (ts : List Symbol) → ((vs : List Symbol) → length vs < length ts → ReadsAt Q more vs (more vs)) → ReadsAt Q (step more) ts (step more ts))
     → (n : ℕ) (ts : List Symbol) → length ts < n → ReadsAt Q (steps step) ts (steps step ts)
 steps_up Q step local h zero ts less = absurd (omega arith)
 steps_up Q step local h (suc n) ts less =
     like_reads Q (steps step) (step (steps step)) ts (steps step ts) (λ r e. steps_is step local r)
     (subst (ReadsAt Q (step (steps step)) ts) (sym (steps_is step local ts)) (h (steps step) ts (λ vs fewer. steps_up Q step local h n vs (omega arith))))
 
-pub steps_read : {X : Type 0} (Q : List Symbol → List X → List Symbol → Type 0) (step : (List Symbol → Reply (List X)) → List Symbol → Reply (List X)) → Local step
-    → ((more : List Symbol → Reply (List X)) (ts : List Symbol) → ((vs : List Symbol) → length vs < length ts → ReadsAt Q more vs (more vs)) → ReadsAt Q (step more) ts (step more ts))
+pub steps_read : {Y : Type 0} (Q : List Symbol → Y → List Symbol → Type 0) (step : (List Symbol → Reply Y) → List Symbol → Reply Y) → Local step
+    → ((more : List Symbol → Reply Y) (ts : List Symbol) → ((vs : List Symbol) → length vs < length ts → ReadsAt Q more vs (more vs)) → ReadsAt Q (step more) ts (step more ts))
     → (ts : List Symbol) → ReadsAt Q (steps step) ts (steps step ts)
 steps_read Q step local h ts = steps_up Q step local h (suc (length ts)) ts (omega arith)
 
@@ -63,29 +63,29 @@ group_reads F one never item ts =
 pub no_longer : {X : Type 0} (F : List Symbol → X → List Symbol → Type 0) (p : List Symbol → Reply X) (ts : List Symbol) (x : X) (rest : List Symbol) → ReadOk F p ts x rest → length rest ≤ length ts
 no_longer F p ts x rest h = rw (h.split, length-append {A = Symbol}) (omega arith)
 
-pub decl_local_at : {X : Type 0} (F : ℕ → List Symbol → X → List Symbol → Type 0) (one : List Symbol → Reply X) → ((x : X) (us : List Symbol) → Any F [] x us → ⊥) → ((us : List Symbol) → ReadsAt (Any F) one us (one us))
-    → (ts : List Symbol) (z : List X × List Symbol) → group_at one ts ≡ Ok z → length z.1 ≤ length ts
-decl_local_at F one never item ts z e = no_longer (Any (IsGroup F)) (group_at one) ts z.0 z.1 (subst (ReadsAt (Any (IsGroup F)) (group_at one) ts) e (group_reads F one never item ts))
+pub decl_local_at : {X : Type 0} (G : List Symbol → List X → List Symbol → Type 0) (group : List Symbol → Reply (List X)) → ((us : List Symbol) → ReadsAt G group us (group us)) → (ts : List Symbol) (z : List X × List Symbol) → group ts ≡ Ok z
+    → length z.1 ≤ length ts
+decl_local_at G group item ts z e = no_longer G group ts z.0 z.1 (subst (ReadsAt G group ts) e (item ts))
 
-pub decl_same : {X : Type 0} (F : ℕ → List Symbol → X → List Symbol → Type 0) (one : List Symbol → Reply X) → ((x : X) (us : List Symbol) → Any F [] x us → ⊥) → ((us : List Symbol) → ReadsAt (Any F) one us (one us))
-    → (f g : List Symbol → Reply (List X)) (ts : List Symbol) → ((vs : List Symbol) → length vs < length ts → f vs ≡ g vs) → decl_at one f ts ≡ decl_at one g ts
-decl_same F one never item f g ts h =
-    bind_same (group_at one ts) _ _ (λ z e. bind_same (past is_semicolon z.1) _ _ (λ vs p.
-    let a : length z.1 ≤ length ts = decl_local_at F one never item ts z e in
+pub decl_same : {X : Type 0} (G : List Symbol → List X → List Symbol → Type 0) (group : List Symbol → Reply (List X)) → ((us : List Symbol) → ReadsAt G group us (group us))
+    → (f g : List Symbol → Reply (List X)) (ts : List Symbol) → ((vs : List Symbol) → length vs < length ts → f vs ≡ g vs) → decl_at group f ts ≡ decl_at group g ts
+decl_same G group item f g ts h =
+    bind_same (group ts) _ _ (λ z e. bind_same (past is_semicolon z.1) _ _ (λ vs p.
+    let a : length z.1 ≤ length ts = decl_local_at G group item ts z e in
     let b : length vs < length z.1 = past_shorter is_semicolon z.1 vs p in
     ap (λ (m : Reply _). m >>= λ ys. Ok (z.0 ++ ys.0, ys.1)) (h vs (omega arith))))
 
-pub decl_reads : {X : Type 0} (F : ℕ → List Symbol → X → List Symbol → Type 0) (one : List Symbol → Reply X) → ((x : X) (us : List Symbol) → Any F [] x us → ⊥) → ((us : List Symbol) → ReadsAt (Any F) one us (one us))
+pub decl_reads : {X : Type 0} (G : List Symbol → List X → List Symbol → Type 0) (group : List Symbol → Reply (List X)) → ((us : List Symbol) → ReadsAt G group us (group us))
     → (Q H : List Symbol → List X → List Symbol → Type 0) (more : List Symbol → Reply (List X)) (ts : List Symbol)
-    → ((vs : List Symbol) (xs : List X) (s : ℕ) (us : List Symbol) (ys : List X) (rest : List Symbol) → Any (IsGroup F) vs xs (t.Semicolon s ∷ us) → Q us ys rest → H vs (xs ++ ys) rest) → ((rest : List Symbol) → Q rest [] rest)
-    → ((vs : List Symbol) → length vs < length ts → ReadsAt Q more vs (more vs)) → ReadsAt H (decl_at one more) ts (decl_at one more ts)
-decl_reads F one never item Q H more ts join none h =
-    bind_reads (Any (IsGroup F)) H (group_at one) (decl_end more) ts
+    → ((vs : List Symbol) (xs : List X) (s : ℕ) (us : List Symbol) (ys : List X) (rest : List Symbol) → G vs xs (t.Semicolon s ∷ us) → Q us ys rest → H vs (xs ++ ys) rest) → ((rest : List Symbol) → Q rest [] rest)
+    → ((vs : List Symbol) → length vs < length ts → ReadsAt Q more vs (more vs)) → ReadsAt H (decl_at group more) ts (decl_at group more ts)
+decl_reads G group item Q H more ts join none h =
+    bind_reads G H group (decl_end more) ts
     (λ xs. record { tokens = t.Semicolon 0 ∷ []; made = xs ++ []; stands = λ tail vs w. join vs xs 0 tail [] tail w (none tail) })
-    (λ xs us o. past_reads is_semicolon (After (Any (IsGroup F)) H xs) semicolon (decl_more more xs) us
+    (λ xs us o. past_reads is_semicolon (After G H xs) semicolon (decl_more more xs) us
     (record { tokens = []; made = xs ++ []; stands = λ tail s vs w. join vs xs s tail [] tail w (none tail) })
     (λ k ws e.
-    let a : length us ≤ length ts = no_longer (Any (IsGroup F)) (group_at one) ts xs us o in
+    let a : length us ≤ length ts = no_longer G group ts xs us o in
     let b : length ws < length us = rw e (omega arith) in
-    value_reads Q (Past semicolon (After (Any (IsGroup F)) H xs)) more (λ ys. xs ++ ys) ws (λ ws' ys rest w s vs v. join vs xs s ws' ys rest v w) (more ws) (h ws (omega arith))))
-    (group_at one ts) (group_reads F one never item ts)
+    value_reads Q (Past semicolon (After G H xs)) more (λ ys. xs ++ ys) ws (λ ws' ys rest w s vs v. join vs xs s ws' ys rest v w) (more ws) (h ws (omega arith))))
+    (group ts) (item ts)

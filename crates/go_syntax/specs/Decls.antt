@@ -4,6 +4,7 @@ use Rattle.go_syntax.specs.declared.symbols.Symbol.{Symbol}
 use Rattle.go_syntax.specs.declared.symbols.Symbol.TheVariants as t
 use Rattle.go_syntax.specs.declared.symbols.Ident.{Ident}
 use Rattle.go_syntax.specs.declared.symbols.Span.{Span}
+use Rattle.go_syntax.specs.declared.constants.Written.{Written}
 use Rattle.go_syntax.specs.declared.tree.Import.{Import}
 use Rattle.go_syntax.specs.declared.tree.Top.{Top}
 use Rattle.go_syntax.specs.declared.tree.Top.TheVariants as top
@@ -11,6 +12,7 @@ use Rattle.go_syntax.specs.declared.tree.TypeExpr.{TypeExpr}
 use Rattle.go_syntax.specs.declared.tree.SourceFile.{SourceFile}
 use Rattle.go_syntax.specs.Names.{IsNames}
 use Rattle.go_syntax.specs.Grammar.{IsType}
+use Rattle.go_syntax.specs.Constants.{IsConstSpec, counted}
 
 abbrev pub import : Option Ident → Span → Import
 import name path = record { name = name; path = path; at = path.start }
@@ -63,6 +65,8 @@ pub data IsTops : ℕ → List Symbol → List Top → List Symbol → Type 0 wh
   no_top : (rest : List Symbol) → IsTops 0 rest [] rest
   vars_too : (m n at s : ℕ) (ts us : List Symbol) (xs ys : List Top) (rest : List Symbol) → IsGroup IsVarSpec m ts xs (t.Semicolon s ∷ us) → IsTops n us ys rest → IsTops (max m n) (t.Var at ∷ ts) (xs ++ ys) rest
   types_too : (m n at s : ℕ) (ts us : List Symbol) (xs ys : List Top) (rest : List Symbol) → IsGroup IsTypeSpec m ts xs (t.Semicolon s ∷ us) → IsTops n us ys rest → IsTops (max m n) (t.Type at ∷ ts) (xs ++ ys) rest
+  consts_too : (m n at s : ℕ) (ts us : List Symbol) (ws : List Written) (ys : List Top) (rest : List Symbol) → IsGroup IsConstSpec m ts ws (t.Semicolon s ∷ us) → IsTops n us ys rest
+      → IsTops (max m n) (t.Const at ∷ ts) (counted 0 0 ws ++ ys) rest
 
 -- SourceFile = PackageClause ";" { ImportDecl ";" } { TopLevelDecl ";" }
 pub data IsFileOf : ℕ → List Symbol → SourceFile → List Symbol → Type 0 where

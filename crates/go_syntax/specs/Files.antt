@@ -1,17 +1,19 @@
 -- Declarations and files, as they are read.
-use Rattle.std.specs.Prelude.{ℕ, zero, suc, List, [], ◌∷◌, ◌++◌, length, Option, Some, None, Result, Ok, Err}
+use Rattle.std.specs.Prelude.{ℕ, List, [], ◌∷◌, ◌++◌, length, Option, Some, None, Result, Ok, Err}
 use Rattle.go_syntax.specs.declared.symbols.Symbol.{Symbol}
 use Rattle.go_syntax.specs.declared.symbols.Symbol.TheVariants as t
 use Rattle.go_syntax.specs.declared.symbols.Ident.{Ident}
 use Rattle.go_syntax.specs.declared.symbols.Span.{Span}
 use Rattle.go_syntax.specs.declared.faults.Fault.{Fault}
 use Rattle.go_syntax.specs.declared.faults.Fault.TheVariants.{DotImport}
+use Rattle.go_syntax.specs.declared.constants.Written.{Written}
 use Rattle.go_syntax.specs.declared.tree.Import.{Import}
 use Rattle.go_syntax.specs.declared.tree.Top.{Top}
 use Rattle.go_syntax.specs.declared.tree.SourceFile.{SourceFile}
-use Rattle.go_syntax.specs.Reading.{Reply, ◌>>=◌, unexpected, past, choose, is_package, is_semicolon, is_comma, is_assign, is_open_paren, is_close_paren, is_import, is_var, is_type, row}
+use Rattle.go_syntax.specs.Reading.{Reply, ◌>>=◌, unexpected, past, choose, is_package, is_semicolon, is_comma, is_assign, is_open_paren, is_close_paren, is_import, is_var, is_type, is_const, row, steps}
 use Rattle.go_syntax.specs.Names.{ident_at, names_at, names_more}
 use Rattle.go_syntax.specs.Types.{type_at}
+use Rattle.go_syntax.specs.Constants.{counted, const_spec_at}
 use Rattle.go_syntax.specs.Decls.{import, vars, defined, alias, source_file}
 
 abbrev pub text_at : List Symbol → Reply Span
@@ -62,15 +64,14 @@ single_at one ts = one ts >>= λ x. Ok (x.0 ∷ [], x.1)
 abbrev pub group_at : {X : Type 0} → (List Symbol → Reply X) → List Symbol → Reply (List X)
 group_at one ts = choose (past is_open_paren ts) (row is_close_paren one) (single_at one ts)
 
+-- the specifications that were read, counted
+abbrev pub counting : ℕ → ℕ → Reply (List Written) → Reply (List Top)
+counting iota last read = read >>= λ ws. Ok (counted iota last ws.0, ws.1)
+
+abbrev pub const_group_at : ℕ → List Symbol → Reply (List Top)
+const_group_at n ts = counting 0 0 (group_at (const_spec_at n) ts)
+
 -- ---- declarations, as long as there are more
-
--- One step, with what reads the rest, does it as often as there are tokens, and once more.
-unfoldable pub steps_of : {X : Type 0} → ℕ → ((List Symbol → Reply (List X)) → List Symbol → Reply (List X)) → List Symbol → Reply (List X)
-steps_of zero step ts = unexpected ts
-steps_of (suc n) step ts = step (steps_of n step) ts
-
-abbrev pub steps : {X : Type 0} → ((List Symbol → Reply (List X)) → List Symbol → Reply (List X)) → List Symbol → Reply (List X)
-steps step ts = steps_of (suc (length ts)) step ts
 
 abbrev pub decl_more : {X : Type 0} → (List Symbol → Reply (List X)) → List X → List Symbol → Reply (List X)
 decl_more more xs us = more us >>= λ ys. Ok (xs ++ ys.0, ys.1)
@@ -79,14 +80,15 @@ abbrev pub decl_end : {X : Type 0} → (List Symbol → Reply (List X)) → List
 decl_end more xs ts = past is_semicolon ts >>= λ us. decl_more more xs us
 
 -- after the keyword
-abbrev pub decl_at : {X : Type 0} → (List Symbol → Reply X) → (List Symbol → Reply (List X)) → List Symbol → Reply (List X)
-decl_at one more ts = group_at one ts >>= λ xs. decl_end more xs.0 xs.1
+abbrev pub decl_at : {X : Type 0} → (List Symbol → Reply (List X)) → (List Symbol → Reply (List X)) → List Symbol → Reply (List X)
+decl_at group more ts = group ts >>= λ xs. decl_end more xs.0 xs.1
 
 abbrev pub import_step : (List Symbol → Reply (List Import)) → List Symbol → Reply (List Import)
-import_step more ts = choose (past is_import ts) (decl_at import_at more) (Ok ([], ts))
+import_step more ts = choose (past is_import ts) (decl_at (group_at import_at) more) (Ok ([], ts))
 
 abbrev pub top_step : ℕ → (List Symbol → Reply (List Top)) → List Symbol → Reply (List Top)
-top_step n more ts = choose (past is_var ts) (decl_at (var_spec_at n) more) (choose (past is_type ts) (decl_at (type_spec_at n) more) (Ok ([], ts)))
+top_step n more ts =
+    choose (past is_var ts) (decl_at (group_at (var_spec_at n)) more) (choose (past is_type ts) (decl_at (group_at (type_spec_at n)) more) (choose (past is_const ts) (decl_at (const_group_at n) more) (Ok ([], ts))))
 
 abbrev pub imports_at : List Symbol → Reply (List Import)
 imports_at ts = steps import_step ts
@@ -98,17 +100,18 @@ tops_at n ts = steps (top_step n) ts
 abbrev pub some_semicolon : {X : Type 0} → List X → List Symbol → Reply (Option (List X))
 some_semicolon xs ts = past is_semicolon ts >>= λ us. Ok (Some xs, us)
 
-abbrev pub some_decl : {X : Type 0} → (List Symbol → Reply X) → List Symbol → Reply (Option (List X))
-some_decl one ts = group_at one ts >>= λ xs. some_semicolon xs.0 xs.1
+abbrev pub some_decl : {X : Type 0} → (List Symbol → Reply (List X)) → List Symbol → Reply (Option (List X))
+some_decl group ts = group ts >>= λ xs. some_semicolon xs.0 xs.1
 
 abbrev pub no_decl : {X : Type 0} → List Symbol → Reply (Option (List X))
 no_decl ts = Ok (None, ts)
 
 abbrev pub import_decl : List Symbol → Reply (Option (List Import))
-import_decl ts = choose (past is_import ts) (some_decl import_at) (no_decl ts)
+import_decl ts = choose (past is_import ts) (some_decl (group_at import_at)) (no_decl ts)
 
 abbrev pub top_decl : ℕ → List Symbol → Reply (Option (List Top))
-top_decl n ts = choose (past is_var ts) (some_decl (var_spec_at n)) (choose (past is_type ts) (some_decl (type_spec_at n)) (no_decl ts))
+top_decl n ts =
+    choose (past is_var ts) (some_decl (group_at (var_spec_at n))) (choose (past is_type ts) (some_decl (group_at (type_spec_at n))) (choose (past is_const ts) (some_decl (const_group_at n)) (no_decl ts)))
 
 abbrev pub step_end : {X : Type 0} → (List Symbol → Reply (List X)) → Option (List X) → List Symbol → Reply (List X)
 step_end more None ts = Ok ([], ts)

@@ -3,7 +3,7 @@ use Rattle.std.specs.Prelude.{Bool}
 use Rattle.go_syntax.specs.declared.symbols.Symbol.{Symbol}
 use Rattle.go_syntax.specs.declared.reading.Kind.{Kind}
 use Rattle.go_syntax.specs.declared.reading.Kind.TheVariants as k
-use Rattle.go_syntax.specs.Reading.{is_ident, is_semicolon, is_comma, is_dot, is_close_paren, is_open_bracket, is_close_bracket, is_open_brace, is_close_brace, is_arrow, is_chan, is_package, is_open_paren, is_assign, is_import, is_var, is_type}
+use Rattle.go_syntax.specs.Reading.{is_ident, is_semicolon, is_comma, is_dot, is_close_paren, is_open_bracket, is_close_bracket, is_open_brace, is_close_brace, is_arrow, is_chan, is_package, is_open_paren, is_assign, is_import, is_var, is_type, is_const}
 use Rattle.go_syntax.specs.Types.{begins_type, shows_embedded}
 use Rattle.go_syntax.specs.Operands.{begins_expr, goes_on}
 
@@ -25,6 +25,7 @@ is_of k.Assign = is_assign
 is_of k.Import = is_import
 is_of k.Var = is_var
 is_of k.Type = is_type
+is_of k.Const = is_const
 is_of k.TypeStart = begins_type
 is_of k.EmbeddedEnd = shows_embedded
 is_of k.ExprStart = begins_expr

@@ -4,6 +4,7 @@ pub mod Grammar
 pub mod Expressions
 pub mod Operands
 pub mod Types
+pub mod Constants
 pub mod Kinds
 pub mod Decls
 pub mod Files

@@ -64,6 +64,10 @@ abbrev pub is_type : Symbol → Bool
 is_type (t.Type at) = true
 is_type _ = false
 
+abbrev pub is_const : Symbol → Bool
+is_const (t.Const at) = true
+is_const _ = false
+
 abbrev pub is_close_paren : Symbol → Bool
 is_close_paren (t.CloseParen at) = true
 is_close_paren _ = false
@@ -108,6 +112,16 @@ starts is (k ∷ ts) = is k
 
 abbrev pub peek : {X : Type 0} → (Symbol → Bool) → List Symbol → Reply X → Reply X → Reply X
 peek is ts found other = if starts is ts then found else other
+
+-- ---- steps that may come again and again
+
+-- One step, with what reads the rest, does it as often as there are tokens, and once more.
+unfoldable pub steps_of : {Y : Type 0} → ℕ → ((List Symbol → Reply Y) → List Symbol → Reply Y) → List Symbol → Reply Y
+steps_of zero step ts = unexpected ts
+steps_of (suc n) step ts = step (steps_of n step) ts
+
+abbrev pub steps : {Y : Type 0} → ((List Symbol → Reply Y) → List Symbol → Reply Y) → List Symbol → Reply Y
+steps step ts = steps_of (suc (length ts)) step ts
 
 -- What follows an item of a row: the end, or a semicolon and more.
 abbrev pub row_more : {X : Type 0} → (List Symbol → Reply (List X)) → X → List Symbol → Reply (List X)

@@ -15,6 +15,7 @@ keyword_symbol w.Package at = t.Package at
 keyword_symbol w.Import at = t.Import at
 keyword_symbol w.Type at = t.Type at
 keyword_symbol w.Var at = t.Var at
+keyword_symbol w.Const at = t.Const at
 keyword_symbol w.Chan at = t.Chan at
 keyword_symbol w.Map at = t.Map at
 keyword_symbol w.Struct at = t.Struct at

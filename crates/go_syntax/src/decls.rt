@@ -1,7 +1,8 @@
 ghost use Rattle.go_syntax.specs.Reading.{Exactly, Gives, row, is_close_paren};
-ghost use Rattle.go_syntax.specs.Files.{text_at, named_import, import_at, vars_typed, vars_first, type_first, group_at, some_decl, import_decl, top_decl};
+ghost use Rattle.go_syntax.specs.Files.{text_at, named_import, import_at, vars_typed, vars_first, type_first, group_at, const_group_at, some_decl, import_decl, top_decl};
 ghost use Rattle.go_syntax.specs.Specs.{spec_of};
 
+use crate::constants::const_group;
 use crate::faults::{Fault, Stop};
 use crate::names::more_names;
 use crate::reading::{Kind, ident, past};
@@ -226,11 +227,24 @@ fn spec_decl(
     tokens: &[Symbol],
     left: usize,
 ) -> Result<(Option<Items<Top>>, &[Symbol]), Stop>
-    ensures { Gives (λ x. (x.0, x.1.now)) result (some_decl (spec_of keyword left) tokens.now) }
+    ensures { Gives (λ x. (x.0, x.1.now)) result (some_decl (group_at (spec_of keyword left)) tokens.now) }
 {
     let (specs, rest) = spec_group(alloc, keyword, tokens, left)?;
     let rest = past(Kind::Semicolon, rest)?;
     Ok((Some(specs), rest))
+}
+
+/// The constants after their keyword, with the semicolon.
+fn const_decl(
+    alloc: Global,
+    tokens: &[Symbol],
+    left: usize,
+) -> Result<(Option<Items<Top>>, &[Symbol]), Stop>
+    ensures { Gives (λ x. (x.0, x.1.now)) result (some_decl (const_group_at left) tokens.now) }
+{
+    let (constants, rest) = const_group(alloc, tokens, left)?;
+    let rest = past(Kind::Semicolon, rest)?;
+    Ok((Some(constants), rest))
 }
 
 /// A declaration with its semicolon, if one comes next.
@@ -246,6 +260,9 @@ pub(crate) fn top_decl(
     }
     if let Ok(rest) = past(Kind::Type, tokens) {
         return spec_decl(alloc, Keyword::Type, rest, left);
+    }
+    if let Ok(rest) = past(Kind::Const, tokens) {
+        return const_decl(alloc, rest, left);
     }
     Ok((None, tokens))
 }

@@ -104,7 +104,7 @@ fn no_more_than_a_thousand_nodes_of_lengths_are_read(rt: HostRuntime) -> Result<
 }
 
 /// A constant of one letter, as it is printed.
-fn letter(alloc: Global, at: u32) -> Result<String, AllocError> {
+pub(crate) fn letter(alloc: Global, at: u32) -> Result<String, AllocError> {
     let end = at.saturating_add(1);
     let name = format!(in alloc;
         "NameExpr {{ package: None, name: Ident {{ start: {at}, end: {end} }}, at: {at} }}"

@@ -1,6 +1,7 @@
 //! The declarations of a Go file as a tree, or the first fault at its place.
 #![tactic(auto)]
 
+mod constants;
 mod decls;
 mod expressions;
 mod faults;
@@ -15,8 +16,12 @@ mod types;
 
 pub use parsing::{SyntaxFault, What, parse};
 pub use symbols::{Ident, Operator, Span};
-pub use tree::{Expr, FieldExpr, Import, NameExpr, SourceFile, Top, TypeExpr, TypeSpec, VarSpec};
+pub use tree::{
+    ConstSpec, Expr, FieldExpr, Import, NameExpr, SourceFile, Top, TypeExpr, TypeSpec, VarSpec,
+};
 
+#[cfg(test)]
+mod constant_tests;
 #[cfg(test)]
 mod expression_tests;
 #[cfg(test)]

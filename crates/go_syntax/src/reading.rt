@@ -58,6 +58,7 @@ pub(crate) enum Kind {
     Import,
     Var,
     Type,
+    Const,
     /// The first token of a type.
     TypeStart,
     /// The first token of an expression.
@@ -128,6 +129,7 @@ fn is_of(kind: Kind, symbol: Symbol) -> bool
         Kind::Import => matches!(symbol, Symbol::Import(_)),
         Kind::Var => matches!(symbol, Symbol::Var(_)),
         Kind::Type => matches!(symbol, Symbol::Type(_)),
+        Kind::Const => matches!(symbol, Symbol::Const(_)),
         Kind::TypeStart => begins_type(symbol),
         Kind::EmbeddedEnd => shows_embedded(symbol),
         Kind::ExprStart => begins_expr(symbol),

@@ -15,6 +15,7 @@ fn keyword_symbol(keyword: Keyword, at: u32) -> Symbol
         Keyword::Import => Symbol::Import(at),
         Keyword::Type => Symbol::Type(at),
         Keyword::Var => Symbol::Var(at),
+        Keyword::Const => Symbol::Const(at),
         Keyword::Chan => Symbol::Chan(at),
         Keyword::Map => Symbol::Map(at),
         Keyword::Struct => Symbol::Struct(at),

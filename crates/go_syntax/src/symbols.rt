@@ -68,6 +68,7 @@ pub enum Symbol {
     Import(u32),
     Type(u32),
     Var(u32),
+    Const(u32),
     Chan(u32),
     Map(u32),
     Struct(u32),

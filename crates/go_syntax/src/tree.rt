@@ -111,6 +111,20 @@ pub struct VarSpec {
     pub ty: TypeExpr,
 }
 
+/// Constants that share a type and a list of values, as they are written. With no values they have the type
+/// and the values of another specification.
+#[derive(Debug, Drop)]
+pub struct ConstSpec {
+    pub names: Items<Ident>,
+    pub ty: Option<TypeExpr>,
+    pub values: Items<Expr>,
+    /// The number of the specification in its group, from 0.
+    pub iota: usize,
+    /// The number of the one whose type and values it has: its own, or that of the last before it that has
+    /// values. The first of a group has its own in any case.
+    pub source: usize,
+}
+
 /// A declared type.
 #[derive(Debug, Drop)]
 pub struct TypeSpec {
@@ -121,6 +135,7 @@ pub struct TypeSpec {
 /// A declaration at the top of a file.
 #[derive(Debug, Drop)]
 pub enum Top {
+    Constant(ConstSpec),
     Var(VarSpec),
     Defined(TypeSpec),
     Alias(TypeSpec),

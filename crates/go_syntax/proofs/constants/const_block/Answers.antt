@@ -1,0 +1,40 @@
+use Rattle.std.proofs.lemmas.Result.{err_from_is_err_and}
+use Rattle.go_syntax.specs.Reading.{row, is_close_paren}
+use Rattle.go_syntax.specs.Constants.{const_spec_at}
+use Rattle.go_syntax.specs.Files.{counting}
+use Rattle.go_syntax.proofs.Turns.{turn_smaller}
+use Rattle.go_syntax.proofs.ConstReads.{const_eats}
+use Rattle.go_syntax.proofs.ConstTurns.{count_closed, count_stops, count_last, count_stuck, count_more}
+use Rattle.go_syntax.proofs.constants.const_block.Goals as goal
+
+pub returns-in-Ok : goal.returns-in-Ok
+returns-in-Ok c =
+    count_closed c.args.left c.loop-after.found c.loop-after.last c.loop-after.rest.now c.in-Ok.after.now (counting 0 0 (row is_close_paren (const_spec_at c.args.left) c.args.tokens.now)) c.in-Ok.ensures c.loop-after.invariant
+
+pub returns-in_err-spec : goal.returns-in_err-spec
+returns-in_err-spec c =
+    let p = err_from_is_err_and c.from_residual.result c.from_residual.ensures.1 in
+    rw (p.1, p.2) (count_stops c.args.left c.loop-after.found c.loop-after.last c.loop-after.rest.now c.in_default.field-0 c.in_err-spec.field-0.0 (counting 0 0 (row is_close_paren (const_spec_at c.args.left) c.args.tokens.now))
+    c.in_default.ensures c.in_err-spec.ensures c.loop-after.invariant)
+
+pub returns-in-Ok-past : goal.returns-in-Ok-past
+returns-in-Ok-past c =
+    rw (c.in_ok-push.ensures.ok, c.constants.ensures, c.source_of-last.ensures, c.len-iota.ensures)
+    (count_last c.args.left c.loop-after.found c.loop-after.last c.loop-after.rest.now c.in_default.field-0 c.in_ok-spec.spec c.in_ok-spec.behind.now c.in-Ok-past.after.now
+    (counting 0 0 (row is_close_paren (const_spec_at c.args.left) c.args.tokens.now)) c.in_default.ensures c.in_ok-spec.ensures c.in-Ok-past.ensures c.loop-after.invariant)
+
+pub returns-in_err-rest : goal.returns-in_err-rest
+returns-in_err-rest c =
+    let p = err_from_is_err_and c.from_residual-in_err-rest.result c.from_residual-in_err-rest.ensures.1 in
+    rw (p.1, p.2) (count_stuck c.args.left c.loop-after.found c.loop-after.last c.loop-after.rest.now c.in_default.field-0 c.in_ok-spec.spec c.in_ok-spec.behind.now c.in_default-past.field-0 c.in_err-rest.field-0.0
+    (counting 0 0 (row is_close_paren (const_spec_at c.args.left) c.args.tokens.now)) c.in_default.ensures c.in_ok-spec.ensures c.in_default-past.ensures c.in_err-rest.ensures c.loop-after.invariant)
+
+pub loop-after-smaller : goal.loop-after-smaller
+loop-after-smaller c =
+    turn_smaller (const_spec_at c.args.left) (const_eats c.args.left) c.loop-after.rest.now c.in_ok-spec.spec c.in_ok-spec.behind.now c.in_ok-rest.rest.now c.in_ok-spec.ensures c.in_ok-rest.ensures
+
+pub loop-after-preserved : goal.loop-after-preserved
+loop-after-preserved c =
+    rw (c.in_ok-push.ensures.ok, c.constants.ensures, c.source_of-last.ensures, c.len-iota.ensures)
+    (count_more c.args.left c.loop-after.found c.loop-after.last c.loop-after.rest.now c.in_default.field-0 c.in_ok-spec.spec c.in_ok-spec.behind.now c.in_ok-rest.rest.now c.in_default-past.field-0
+    (counting 0 0 (row is_close_paren (const_spec_at c.args.left) c.args.tokens.now)) c.in_default.ensures c.in_ok-spec.ensures c.in_default-past.ensures c.in_ok-rest.ensures c.loop-after.invariant)
