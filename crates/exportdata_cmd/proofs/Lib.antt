@@ -1,5 +1,4 @@
 pub mod Endings
 pub mod Indexed
-pub mod Plain
 pub mod Puts
 pub mod Runs

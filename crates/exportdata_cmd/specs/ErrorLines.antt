@@ -1,7 +1,8 @@
 -- The error lines: their texts, and the status that each goes with.
 use Rattle.std.specs.Prelude.{ℕ, List, ◌++◌, codes, decimal}
 use Rattle.wire_bytes.specs.declared.fault.ByteFault.{ByteFault}
-use Rattle.exportdata_cmd.specs.Printed.{Line, line, printed, fault_text}
+use Rattle.decl_text.specs.Printed.{printed}
+use Rattle.exportdata_cmd.specs.Printed.{Line, line, fault_text}
 use Rattle.exportdata_cmd.specs.declared.exits.Status.{Status}
 use Rattle.exportdata_cmd.specs.declared.exits.Status.TheVariants.{Refused, Words, Files, Memory, Limit}
 use Rattle.exportdata_cmd.specs.declared.error_line.ErrorLine.{ErrorLine}

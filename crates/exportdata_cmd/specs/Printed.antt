@@ -1,7 +1,7 @@
 -- What is printed: the parts of a line, and the lines.
-use Rattle.std.specs.Prelude.{ℕ, ◌+◌, ◌/◌, ◌%◌, Bool, ◌||◌, nat_lt, ◌==◌, if◌then◌else◌, List, [], ◌∷◌, ◌++◌, codes, decimal}
-use Rattle.std.specs.List.{flat_map}
+use Rattle.std.specs.Prelude.{ℕ, List, ◌++◌, codes, decimal}
 use Rattle.wire_bytes.specs.declared.fault.ByteFault.{ByteFault}
+use Rattle.decl_text.specs.Printed.{printed}
 use Rattle.wire_bytes.specs.declared.fault.ByteFault.TheVariants.{Ended, Number, Range, Tag, Order, Version, Wide, Float, NotConst, Trailing}
 
 -- a line, with its line feed
@@ -11,22 +11,6 @@ Line = List ℕ
 -- a line of this text
 abbrev pub line : List ℕ → Line
 line text = text ++ codes "\n"
-
--- a digit of base 16, in lower case
-abbrev pub hex_digit : ℕ → ℕ
-hex_digit n = if nat_lt n 10 then 48 + n else 87 + n
-
--- a byte that isn't printed as it is: below 21 in base 16, 7f, the quote and the backslash
-abbrev pub is_escaped : ℕ → Bool
-is_escaped byte = nat_lt byte 33 || (byte == 127 || (byte == 34 || byte == 92))
-
--- a byte as it is printed, which is itself or `\x` and two digits of base 16
-abbrev pub printed_byte : ℕ → List ℕ
-printed_byte byte = if is_escaped byte then codes "\\x" ++ (hex_digit (byte / 16) ∷ hex_digit (byte % 16) ∷ []) else byte ∷ []
-
--- a path, a name, a label or a file as it is printed
-abbrev pub printed : List ℕ → List ℕ
-printed text = flat_map printed_byte text
 
 -- a fault of bytes as it is printed
 abbrev pub fault_text : ByteFault → List ℕ

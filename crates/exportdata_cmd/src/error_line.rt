@@ -1,8 +1,9 @@
 ghost use Rattle.std.specs.Prelude.{◌≡◌, ◌++◌, IfOk, OnOk};
-ghost use Rattle.exportdata_cmd.specs.Printed.{printed};
+ghost use Rattle.decl_text.specs.Printed.{printed};
 
 use crate::exits::Status;
-use crate::printing::{put_fault, put_number, put_printed};
+use crate::printing::{put_fault, put_number};
+use decl_text::put_printed;
 use std::alloc::{AllocError, Global};
 use wire_bytes::ByteFault;
 

@@ -1,62 +1,10 @@
-ghost use Rattle.std.specs.Prelude.{◌≡◌, ◌++◌, ◌<◌, ◌+◌, ◌/◌, ◌%◌, decimal, OnOk, IsTrue, ◌↔◌};
-ghost use Rattle.std.specs.List.{list_any};
-ghost use Rattle.exportdata_cmd.specs.Printed.{hex_digit, is_escaped, printed_byte, printed, fault_text, package_line, name_line};
+ghost use Rattle.std.specs.Prelude.{◌≡◌, ◌++◌, decimal, OnOk};
+ghost use Rattle.exportdata_cmd.specs.Printed.{fault_text, package_line, name_line};
 
+use decl_text::put_printed;
 use itoa::Buffer;
 use std::alloc::AllocError;
 use wire_bytes::ByteFault;
-
-// Whether a byte isn't printed as it is.
-fn is_escaped(byte: u8) -> bool
-    ensures { result ≡ is_escaped byte }
-{
-    byte < 0x21 || byte == 0x7f || byte == b'"' || byte == b'\\'
-}
-
-// A digit of base 16, in lower case.
-fn hex_digit(digit: u8) -> u8
-    requires { digit < 16 }
-    ensures { result ≡ hex_digit digit }
-{
-    if digit < 10 {
-        b'0' + digit
-    } else {
-        b'a' - 10 + digit
-    }
-}
-
-// Adds a byte as it is printed.
-fn put_byte(line: &mut Vec<u8>, byte: u8) -> Result<(), AllocError>
-    ensures { OnOk result (line.new.items ≡ line.old.items ++ printed_byte byte) }
-{
-    if is_escaped(byte) {
-        line.extend_from_slice(&[b'\\', b'x', hex_digit(byte / 16), hex_digit(byte % 16)])
-    } else {
-        line.push(byte)?;
-        Ok(())
-    }
-}
-
-// Whether some byte of a text isn't printed as it is.
-fn has_escapes(text: &[u8]) -> bool
-    ensures { result ≡ list_any is_escaped text.now }
-{
-    text.iter().any(|byte| is_escaped(*byte))
-}
-
-/// Adds a path, a name, a label or a file as it is printed.
-#[tactic(auto, using(crate::proofs::Plain::printed_plain))]
-pub fn put_printed(line: &mut Vec<u8>, text: &[u8]) -> Result<(), AllocError>
-    ensures { OnOk result (line.new.items ≡ line.old.items ++ printed text.now) }
-{
-    if !has_escapes(text) {
-        return line.extend_from_slice(text);
-    }
-    for byte in text {
-        put_byte(line, *byte)?;
-    }
-    Ok(())
-}
 
 /// Adds some words and a number.
 pub fn put_number(line: &mut Vec<u8>, words: &[u8], number: u64) -> Result<(), AllocError>

@@ -1,6 +1,6 @@
 use Rattle.std.proofs.Common.{◌≡◌, ◌++◌, take}
-use Rattle.exportdata_cmd.specs.Printed.{printed}
-use Rattle.exportdata_cmd.proofs.printing.put_printed.Given as goal
+use Rattle.decl_text.specs.Printed.{printed}
+use Rattle.decl_text.proofs.escapes.put_printed.Given as goal
 
 abbrev pub invariant-loop-byte : goal.invariant-loop-byte
 invariant-loop-byte l = l.line.items ≡ l.fn.line.items ++ printed (take l.byte-index l.text)

@@ -1,7 +1,7 @@
 -- Text that is printed as it is.
 use Rattle.std.proofs.Common.{◌≡◌, ℕ, Bool, true, false, ◌||◌, List, [], ◌∷◌, refl}
 use Rattle.std.specs.List.{list_any}
-use Rattle.exportdata_cmd.specs.Printed.{is_escaped, printed}
+use Rattle.decl_text.specs.Printed.{is_escaped, printed}
 
 neither : (a b : Bool) → a || b ≡ false → (a ≡ false) × (b ≡ false)
 neither true b e = let f : true ≡ false = e in absurd (cc)

@@ -1,0 +1,13 @@
+mod WalkLevels
+mod Finished
+mod Ordered
+mod Plain
+mod NodeNumbered
+mod Joins
+mod Fused
+mod Retyped
+mod Formed
+mod NodeFinished
+mod TaskSteps
+mod Rendered
+mod LineLaws

@@ -1,0 +1,5 @@
+use Rattle.decl_text.proofs.LineLaws.{nothing_added}
+use Rattle.decl_text.proofs.laws.a_finished_type_adds_nothing.Goals as goal
+
+pub returns : goal.returns
+returns c = nothing_added

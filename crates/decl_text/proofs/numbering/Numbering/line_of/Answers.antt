@@ -1,0 +1,12 @@
+use Rattle.std.proofs.Common.{◌++◌, ap, sym, ◌∙◌}
+use Rattle.decl_text.specs.NodeNumbers.{node_reference}
+use Rattle.decl_text.specs.PieceText.{node_line}
+use Rattle.decl_text.proofs.NodeFinished.{line_at}
+use Rattle.decl_text.proofs.numbering.Numbering.line_of.Goals as goal
+
+pub returns : goal.returns
+returns c =
+    let nodes = c.args.arena.now.nodes in
+    let numbers = c.args.self.now.numbers.entries in
+    let text = node_line (node_reference nodes numbers) c.node.result.now in
+    c.from_vec.ensures ∙ c.in_ok-put_type.ensures ∙ ap (λ front. front ++ text) c.new-line.ensures.items ∙ sym (line_at nodes numbers c.args.id c.node.result.now c.node.ensures.denotes)

@@ -1,0 +1,15 @@
+use Rattle.std.proofs.Common.{map}
+use Rattle.std.specs.List.{flat_map}
+use Rattle.type_terms.specs.Denotation.{tree}
+use Rattle.decl_text.specs.Walks.{walk}
+use Rattle.decl_text.specs.Numbering.{numbers_at, StandsIn}
+use Rattle.decl_text.proofs.TaskSteps.{IsWalking, tasks_weight}
+use Rattle.decl_text.proofs.walking.number_types.Given as goal
+
+abbrev pub invariant-loop-task : goal.invariant-loop-task
+invariant-loop-task l =
+    IsWalking l.arena.nodes (flat_map walk (map (tree l.arena.nodes) l.fn.types.items)) l.tasks.items (numbers_at l.arena.nodes l.numbering)
+    × StandsIn l.arena.nodes l.numbering
+
+abbrev pub decreases-loop-task : goal.decreases-loop-task
+decreases-loop-task l = tasks_weight l.arena.nodes l.tasks.items

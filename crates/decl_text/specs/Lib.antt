@@ -1,0 +1,12 @@
+pub mod Printed
+pub mod Joined
+pub mod BasicNames
+pub mod TypeText
+pub mod Walks
+pub mod Numbers
+pub mod DeclText
+pub mod NodeNumbers
+pub mod PieceText
+pub mod Referring
+pub mod Numbering
+pub mod Tasks

@@ -1,0 +1,23 @@
+//! The declarations of export data as text.
+#![tactic(auto)]
+
+mod decls;
+mod escapes;
+mod laws;
+mod methods;
+mod naming;
+mod numbering;
+mod pieces;
+mod references;
+mod rendering;
+mod signatures;
+mod tasks;
+mod types;
+mod walking;
+mod words;
+
+pub use escapes::put_printed;
+pub use laws::{
+    a_finished_type_adds_nothing, a_walk_finishes_parts_first, types_of_one_number_have_one_line,
+};
+pub use rendering::render;
