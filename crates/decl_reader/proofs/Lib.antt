@@ -2,3 +2,12 @@ pub mod Windows
 pub mod Lists
 pub mod Passing
 pub mod Found
+pub mod Stacked
+pub mod Entries
+pub mod Opened
+pub mod Beginnings
+pub mod Answering
+pub mod Closings
+pub mod Running
+pub mod Extended
+pub mod Generic

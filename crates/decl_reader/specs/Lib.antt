@@ -4,3 +4,7 @@ pub mod Shapes
 pub mod Spellings
 pub mod Forms
 pub mod Leads
+pub mod Blocks
+pub mod Frames
+pub mod Opens
+pub mod Meant

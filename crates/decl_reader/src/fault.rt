@@ -2,10 +2,11 @@
 
 ghost use Rattle.std.specs.Prelude.{◌≡◌};
 ghost use Rattle.decl_reader.specs.declared.fault.ReadFault.TheVariants.{Bytes, OutOfMemory};
-ghost use Rattle.decl_reader.specs.Faults.{of_position};
+ghost use Rattle.decl_reader.specs.Faults.{of_arena, of_position};
 
 use position_codec::PosFault;
 use std::alloc::{AllocError, AllocFailed};
+use type_terms::ArenaError;
 use wire_bytes::ByteFault;
 
 /// Why a declaration couldn't be read.
@@ -50,5 +51,16 @@ impl<T: Drop> From<AllocFailed<T>> for ReadFault {
 
     fn from(_error: AllocFailed<T>) -> ReadFault {
         ReadFault::OutOfMemory
+    }
+}
+
+impl From<ArenaError> for ReadFault {
+    ghost from_gives = { λ f e. e ≡ of_arena f };
+
+    fn from(error: ArenaError) -> ReadFault {
+        match error {
+            ArenaError::Full => ReadFault::Nodes,
+            ArenaError::OutOfMemory => ReadFault::OutOfMemory,
+        }
     }
 }

@@ -6,9 +6,13 @@
 mod basics;
 mod block;
 mod codes;
+mod demands;
+mod descent;
 mod fault;
 mod flat;
 mod heads;
+mod nodes;
+mod table;
 
 pub use basics::Basics;
 pub use fault::ReadFault;

@@ -35,10 +35,10 @@ are_bytes [] all i = omega arith
 are_bytes (b ∷ bytes) all zero = all.0
 are_bytes (b ∷ bytes) all (suc i) = are_bytes bytes all.1 i
 
-strings_are : (src : Source) → HoldsBytes src → IsBytes src.strings
+pub strings_are : (src : Source) → HoldsBytes src → IsBytes src.strings
 strings_are src holds = are_bytes src.strings holds.0
 
-body_is : (src : Source) → HoldsBytes src → IsBytes src.body
+pub body_is : (src : Source) → HoldsBytes src → IsBytes src.body
 body_is src holds = are_bytes src.body holds.1
 
 -- ---- what needs no reading

@@ -30,3 +30,4 @@ pub mod Lengths
 pub mod WorkedBytes
 pub mod LeadsTaken
 pub mod LeadsAgain
+pub mod Bounds

@@ -1,0 +1,131 @@
+-- Descriptors that are open, as the code keeps them, and what its calls answer.
+use Rattle.std.specs.Prelude.{◌≡◌, ℕ, ◌+◌, ◌<◌, ◌≤◌, List, [], ◌∷◌, length, take, drop, map, Result, Ok, Err, Option, Some, None, nat_le}
+use Rattle.std.specs.List.{AllByRecursion}
+use Rattle.wire_bytes.specs.declared.fault.ByteFault.{ByteFault}
+use Rattle.wire_bytes.specs.declared.fault.ByteFault.TheVariants as faults
+use Rattle.wire_bytes.specs.Reading.{◌>>=◌, demand}
+use Rattle.code_tables.specs.declared.predeclared.Basic.{Basic}
+use Rattle.type_terms.specs.Trees.{Tree, predeclared}
+use Rattle.type_terms.specs.Shapes.{instance_of}
+use Rattle.decl_spelling.specs.declared.mention.Mention.{Mention}
+use Rattle.decl_spelling.specs.Source.{Source}
+use Rattle.decl_spelling.specs.Descriptors.{Flat as Shape}
+use Rattle.decl_spelling.specs.Tables.{Table, Finished}
+use Rattle.decl_spelling.specs.Descent.{ReadsBlock, block_at, resolve, resolve_all, meets, unmet}
+use Rattle.decl_spelling.proofs.NamedTypes.{Kept, IsAnswered}
+use Rattle.decl_spelling.proofs.Took.{ask_of, shape_asks}
+use Rattle.decl_reader.specs.declared.flat.descriptors.Flat.{Flat}
+use Rattle.decl_reader.specs.declared.descent.Open.{Open}
+use Rattle.decl_reader.specs.declared.fault.ReadFault.{ReadFault}
+use Rattle.decl_reader.specs.declared.fault.ReadFault.TheVariants.{Bytes, Nodes, OutOfMemory}
+use Rattle.decl_reader.specs.Shapes.{flat_shape}
+use Rattle.decl_reader.specs.Blocks.{Entry, AllInside, HasRoom, IsStacked}
+use Rattle.decl_reader.specs.Frames.{Frame, closed_by, resume}
+
+-- the nodes of the table are in the arena, and its blocks are in order
+pub record IsReady (size : ℕ) (entries : List Entry) : Type 0 where
+  pub inside : AllInside size entries
+  pub stacked : IsStacked entries
+
+-- each descriptor of the data section may be read
+abbrev pub reads : Source → ReadsBlock
+reads src = block_at src (length src.body)
+
+-- the table that a call left is what reading gives; want of memory says nothing
+abbrev pub Resolves : Result (Unit {0}) ReadFault → Table → Result Table ByteFault → Type 0
+Resolves (Ok u) known read = read ≡ Ok known
+Resolves (Err (Bytes f)) known read = read ≡ Err f
+Resolves (Err Nodes) known read = Unit {0}
+Resolves (Err OutOfMemory) known read = Unit {0}
+
+abbrev pub own_shape : Result (Flat × ℕ) ByteFault → Result (Shape × ℕ) ByteFault
+own_shape (Ok x) = Ok (flat_shape x.0, x.1)
+own_shape (Err f) = Err f
+
+-- an open descriptor whose mentions from one on are still to be known
+abbrev pub frame_from : ℕ → Open → Frame
+frame_from k open_one = record { start = open_one.start; left = drop k open_one.mentions.items; own = own_shape open_one.own; named = open_one.named }
+
+abbrev pub frame_of : Open → Frame
+frame_of o = frame_from o.known o
+
+-- one of whose mentions is being read
+abbrev pub holder_of : Open → Frame
+holder_of o = frame_from (o.known + 1) o
+
+-- an instance has an argument
+abbrev pub HasArgument : Shape → Type 0
+HasArgument (instance_of base args) = 0 < length args
+HasArgument _ = Unit {0}
+
+-- What was read whole is what its mentions say, and no finished descriptor has a byte of it.
+abbrev pub IsOwn : List Entry → ℕ → List Mention → Result (Flat × ℕ) ByteFault → Type 0
+IsOwn entries start mentions (Ok x) = (map ask_of mentions ≡ shape_asks (flat_shape x.0)) × HasArgument (flat_shape x.0) × (start < x.1) × HasRoom start x.1 entries
+IsOwn entries start mentions (Err f) = Unit {0}
+
+-- some of its mentions are known
+pub record IsOpen (src : Source) (done : Table) (entries : List Entry) (o : Open) : Type 0 where
+  pub its_start : o.named.value ≡ 32 + o.start
+  pub inside : o.start < length src.body
+  pub few : length o.mentions.items ≤ length src.body
+  pub some : o.known ≤ length o.mentions.items
+  pub answered : AllByRecursion (IsAnswered src done o.start) (take o.known o.mentions.items)
+  pub own : IsOwn entries o.start o.mentions.items o.own
+
+-- it starts before an offset, and ends at it or before it if it has an end
+abbrev pub EndsBefore : Result (Flat × ℕ) ByteFault → ℕ → Type 0
+EndsBefore (Ok x) offset = x.1 ≤ offset
+EndsBefore (Err f) offset = Unit {0}
+
+abbrev pub IsBelow : Open → ℕ → Type 0
+IsBelow o offset = (o.start < offset) × EndsBefore o.own offset
+
+-- a descriptor that was just opened for a holder, and what reading its types comes to for the mention that named it
+pub record IsBegun (src : Source) (done : Table) (entries : List Entry) (holder : ℕ) (named : Mention) (o : Open) : Type 0 where
+  pub fresh : o.known ≡ 0
+  pub its_mention : o.named ≡ named
+  pub is_open : IsOpen src done entries o
+  pub below : IsBelow o holder
+  pub turn : resolve src (reads src) holder named done ≡ (resolve_all src (reads src) o.start o.mentions.items done >>= closed_by src.version o.start named (own_shape o.own))
+
+-- what a mention needs: nothing more, or a descriptor that was opened
+abbrev pub Begins : Source → Table → List Entry → ℕ → Mention → Result (Option Open) ReadFault → Type 0
+Begins src done entries holder named (Ok None) = (resolve src (reads src) holder named done ≡ Ok done) × IsAnswered src done holder named
+Begins src done entries holder named (Ok (Some o)) = IsBegun src done entries holder named o
+Begins src done entries holder named (Err (Bytes f)) = resolve src (reads src) holder named done ≡ Err f
+Begins src done entries holder named (Err Nodes) = ⊥
+Begins src done entries holder named (Err OutOfMemory) = Unit {0}
+
+-- A descriptor was closed: it is among the finished ones, which stay, and where it ends at or before an offset it leaves the
+-- room from there on.
+pub record IsClosed (src : Source) (old new : Table) (before after : List Entry) (o : Open) : Type 0 where
+  pub kept : Kept old new
+  pub answered : (holder : ℕ) → IsBelow o holder → IsAnswered src new holder o.named
+  pub room : (from to : ℕ) → IsBelow o from → HasRoom from to before → HasRoom from to after
+
+-- the open descriptors that hold one, the innermost first: each is reading the mention that named the one before it
+abbrev pub AreHolders : Source → Table → List Entry → Open → List Open → Type 0
+AreHolders src done entries inner [] = Unit {0}
+AreHolders src done entries inner (o ∷ os) =
+    IsOpen src done entries o × (o.known < length o.mentions.items) × (drop o.known o.mentions.items ≡ inner.named ∷ drop (o.known + 1) o.mentions.items) × IsBelow inner o.start × AreHolders src done entries o os
+
+abbrev pub resumed : Source → Open → List Open → Table → Result Table ByteFault
+resumed src first holders done = resume src (reads src) (frame_of first ∷ map holder_of holders) done
+
+-- ---- whether a type that is known is what its holder asks for
+
+abbrev pub checked_type : Mention → Tree → Result (Unit {0}) ByteFault
+checked_type m tree = demand (meets m.asked tree) (unmet m m.asked)
+
+abbrev pub checked_basic : Mention → Option Basic → Result (Unit {0}) ByteFault
+checked_basic m (Some basic) = checked_type m (predeclared basic)
+checked_basic m None = Err (faults.Range m.at m.value)
+
+abbrev pub checked_finished : ℕ → Mention → Finished → Result (Unit {0}) ByteFault
+checked_finished holder m finished = demand (nat_le finished.end holder) (faults.Range m.at m.value) >>= λ u. checked_type m finished.tree
+
+-- the same of a descriptor that ends at an offset
+pub record IsFinished (src : Source) (old new : Table) (before after : List Entry) (named : Mention) (end : ℕ) : Type 0 where
+  pub kept : Kept old new
+  pub answered : (holder : ℕ) → end ≤ holder → IsAnswered src new holder named
+  pub room : (from to : ℕ) → end ≤ from → HasRoom from to before → HasRoom from to after

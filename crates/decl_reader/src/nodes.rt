@@ -1,0 +1,10 @@
+//! From numbers of types to nodes of an arena.
+
+mod declarations;
+mod descriptors;
+mod kept;
+mod members;
+mod numbers;
+
+pub(crate) use declarations::add_declaration;
+pub(crate) use descriptors::add_flat;

@@ -1,0 +1,123 @@
+//! Declarations with types as nodes.
+
+ghost use Rattle.std.specs.Prelude.{◌≡◌, length, IfOk, IfErr, IsErrOf};
+ghost use Rattle.type_terms.specs.Arenas.{AllBelow, Extends};
+ghost use Rattle.type_terms.specs.Declarations.{decl_nodes};
+ghost use Rattle.type_terms.specs.Environments.{decl_of};
+ghost use Rattle.decl_reader.specs.Faults.{IsNoFault};
+ghost use Rattle.decl_reader.specs.Blocks.{AllInside};
+ghost use Rattle.decl_reader.specs.Forms.{decl_form};
+ghost use Rattle.decl_reader.specs.Meant.{named_by, decl_meant};
+
+use crate::fault::ReadFault;
+use crate::flat::DeclParts;
+use crate::nodes::kept::Kept;
+use crate::nodes::numbers::Numbers;
+use crate::table::Table;
+use std::alloc::Global;
+use type_terms::{Arena, DeclNode};
+
+/// The declaration with the types that its numbers name.
+pub(crate) fn add_declaration(
+    alloc: Global,
+    version: u8,
+    parts: DeclParts,
+    table: &Table,
+    arena: &mut Arena,
+) -> Result<DeclNode, ReadFault>
+    requires inside { AllInside (length arena.old.nodes) table.now.blocks.entries }
+    ensures denotes { IfOk result (λ node. decl_of arena.new.nodes node ≡ decl_meant (named_by version arena.old.nodes table.now.blocks.entries) (decl_form parts)) }
+    ensures within { IfOk result (λ node. AllBelow (length arena.new.nodes) (decl_nodes node)) }
+    ensures extends { Extends arena.old arena.new }
+    ensures only_memory { IfErr result IsNoFault }
+    ensures full { IsErrOf result ReadFault.Nodes → length arena.new.nodes ≡ arena.new.limit }
+{
+    parts.with_nodes(alloc, version, table, arena)
+}
+
+impl Kept for DeclParts {
+    ghost use Rattle.std.specs.Prelude.{ℕ};
+    ghost use Rattle.code_tables.specs.declared.positions.Pos.{Pos};
+    ghost use Rattle.type_terms.specs.Declarations.{Form, Decl, form_types, decl_form as node_form};
+    ghost use Rattle.type_terms.specs.Trees.{Text};
+    ghost use Rattle.decl_reader.specs.Forms.{decl_form};
+    ghost use Rattle.decl_reader.specs.Meant.{decl_meant, decl_agrees};
+
+    type Item = DeclNode;
+
+    ghost Shape = { Form Pos Text ℕ };
+
+    ghost shape = { decl_form };
+
+    ghost item_shape = { node_form };
+
+    ghost types = { form_types };
+
+    ghost Meaning = { Decl };
+
+    ghost meant = { decl_meant };
+
+    ghost agrees = { decl_agrees };
+
+    fn with_nodes(
+        self,
+        alloc: Global,
+        version: u8,
+        table: &Table,
+        arena: &mut Arena,
+    ) -> Result<DeclNode, ReadFault> {
+        match self {
+            DeclParts::Var { pos, ty } => {
+                let ty = ty.with_nodes(alloc, version, table, arena)?;
+                Ok(DeclNode::Var { pos, ty })
+            }
+            DeclParts::Func {
+                pos,
+                tparams,
+                signature,
+            } => {
+                let types = (Numbers { items: tparams }, signature);
+                let (tparams, sig) = types.with_nodes(alloc, version, table, arena)?;
+                Ok(DeclNode::Func { pos, tparams, sig })
+            }
+            DeclParts::Constant { pos, ty, value } => {
+                let ty = ty.with_nodes(alloc, version, table, arena)?;
+                Ok(DeclNode::Constant { pos, ty, value })
+            }
+            DeclParts::Defined {
+                pos,
+                tparams,
+                underlying,
+                methods,
+            } => {
+                let types = (Numbers { items: tparams }, (underlying, methods));
+                let (tparams, (underlying, methods)) = types.with_nodes(
+                    alloc, version, table, arena,
+                )?;
+                Ok(DeclNode::Defined {
+                    pos,
+                    tparams,
+                    underlying,
+                    methods,
+                })
+            }
+            DeclParts::Alias { pos, tparams, ty } => {
+                let types = (Numbers { items: tparams }, ty);
+                let (tparams, ty) = types.with_nodes(alloc, version, table, arena)?;
+                Ok(DeclNode::Alias { pos, tparams, ty })
+            }
+            DeclParts::Parameter {
+                pos,
+                implicit,
+                constraint,
+            } => {
+                let constraint = constraint.with_nodes(alloc, version, table, arena)?;
+                Ok(DeclNode::Parameter {
+                    pos,
+                    implicit,
+                    constraint,
+                })
+            }
+        }
+    }
+}

@@ -1,0 +1,117 @@
+//! The node of a descriptor.
+
+ghost use Rattle.std.specs.Prelude.{◌≡◌, ◌<◌, length, IfOk, IfErr, IsErrOf};
+ghost use Rattle.type_terms.specs.Arenas.{Extends};
+ghost use Rattle.type_terms.specs.Denotation.{tree};
+ghost use Rattle.type_terms.specs.Shapes.{retype};
+ghost use Rattle.type_terms.specs.Trees.{tree_of};
+ghost use Rattle.decl_spelling.specs.Tables.{type_named};
+ghost use Rattle.decl_reader.specs.Faults.{IsNoFault};
+ghost use Rattle.decl_reader.specs.Blocks.{AllInside, table_of};
+ghost use Rattle.decl_reader.specs.Meant.{IsGenericFlat};
+ghost use Rattle.decl_reader.specs.Shapes.{flat_shape};
+
+use crate::fault::ReadFault;
+use crate::flat::Flat;
+use crate::nodes::kept::Kept;
+use crate::nodes::numbers::Numbers;
+use crate::table::Table;
+use std::alloc::Global;
+use type_terms::{Arena, Node, NodeId};
+
+/// The node of the type that a descriptor spells, with the types that its numbers name. An instance has the name of a generic
+/// type, and an argument.
+pub(crate) fn add_flat(
+    alloc: Global,
+    version: u8,
+    flat: Flat,
+    table: &Table,
+    arena: &mut Arena,
+) -> Result<NodeId, ReadFault>
+    requires inside { AllInside (length arena.old.nodes) table.now.blocks.entries }
+    requires generic { IsGenericFlat version (table_of arena.old.nodes table.now.blocks.entries) (flat_shape flat) }
+    ensures denotes { IfOk result (λ id. tree arena.new.nodes id ≡ tree_of (retype (type_named version (table_of arena.old.nodes table.now.blocks.entries)) (flat_shape flat))) }
+    ensures within { IfOk result (λ id. id < length arena.new.nodes) }
+    ensures extends { Extends arena.old arena.new }
+    ensures only_memory { IfErr result IsNoFault }
+    ensures full { IsErrOf result ReadFault.Nodes → length arena.new.nodes ≡ arena.new.limit }
+{
+    let node = flat.with_nodes(alloc, version, table, arena)?;
+    Ok(arena.add(node)?)
+}
+
+impl Kept for Flat {
+    ghost use Rattle.std.specs.Prelude.{ℕ};
+    ghost use Rattle.code_tables.specs.declared.positions.Pos.{Pos};
+    ghost use Rattle.type_terms.specs.NodeShapes.{node_shape};
+    ghost use Rattle.type_terms.specs.Shapes.{Shape as ShapeOf, shape_types};
+    ghost use Rattle.type_terms.specs.Trees.{Text, Level};
+    ghost use Rattle.decl_reader.specs.Shapes.{flat_shape};
+    ghost use Rattle.decl_reader.specs.Meant.{level_meant, level_agrees};
+
+    type Item = Node;
+
+    ghost Shape = { ShapeOf Pos Text Text ℕ };
+
+    ghost shape = { flat_shape };
+
+    ghost item_shape = { node_shape };
+
+    ghost types = { shape_types };
+
+    ghost Meaning = { Level };
+
+    ghost meant = { level_meant };
+
+    ghost agrees = { level_agrees };
+
+    fn with_nodes(
+        self,
+        alloc: Global,
+        version: u8,
+        table: &Table,
+        arena: &mut Arena,
+    ) -> Result<Node, ReadFault> {
+        match self {
+            Flat::Defined(name) => Ok(Node::Named(name)),
+            Flat::TypeParameter(name) => Ok(Node::Param(name)),
+            Flat::Alias(name) => Ok(Node::AliasName(name)),
+            Flat::Pointer(ty) => Ok(Node::Pointer(ty.with_nodes(alloc, version, table, arena)?)),
+            Flat::Slice(ty) => Ok(Node::Slice(ty.with_nodes(alloc, version, table, arena)?)),
+            Flat::Array(size, ty) => {
+                let ty = ty.with_nodes(alloc, version, table, arena)?;
+                Ok(Node::Array(size, ty))
+            }
+            Flat::Chan(dir, ty) => {
+                let ty = ty.with_nodes(alloc, version, table, arena)?;
+                Ok(Node::Chan(dir, ty))
+            }
+            Flat::Map(key, ty) => {
+                let (key, ty) = (key, ty).with_nodes(alloc, version, table, arena)?;
+                Ok(Node::MapOf(key, ty))
+            }
+            Flat::Func(home, signature) => {
+                let sig = signature.with_nodes(alloc, version, table, arena)?;
+                Ok(Node::FuncOf(home, sig))
+            }
+            Flat::Struct(home, fields) => {
+                let fields = fields.with_nodes(alloc, version, table, arena)?;
+                Ok(Node::StructOf(home, fields))
+            }
+            Flat::Interface(home, embedded, methods) => {
+                let parts = (Numbers { items: embedded }, methods);
+                let (embedded, methods) = parts.with_nodes(alloc, version, table, arena)?;
+                Ok(Node::Iface(home, embedded, methods))
+            }
+            Flat::Instance(base, arguments) => {
+                let parts = (Numbers { items: arguments }, base);
+                let (arguments, base) = parts.with_nodes(alloc, version, table, arena)?;
+                Ok(Node::Instance(base, arguments))
+            }
+            Flat::Union(terms) => {
+                let terms = terms.with_nodes(alloc, version, table, arena)?;
+                Ok(Node::Union(terms))
+            }
+        }
+    }
+}

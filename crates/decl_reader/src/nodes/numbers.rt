@@ -1,0 +1,113 @@
+//! The nodes of the types that numbers name.
+
+ghost use Rattle.std.specs.Prelude.{◌≡◌, ◌<◌, length, IfOk, IfErr, IsErrOf};
+ghost use Rattle.type_terms.specs.Arenas.{Extends};
+ghost use Rattle.type_terms.specs.Denotation.{tree};
+ghost use Rattle.decl_reader.specs.Faults.{IsNoFault};
+ghost use Rattle.decl_reader.specs.Blocks.{AllInside};
+ghost use Rattle.decl_reader.specs.Meant.{named_by};
+
+use crate::codes::basic_of;
+use crate::fault::ReadFault;
+use crate::nodes::kept::{Kept, all_with_nodes};
+use crate::table::Table;
+use code_tables::Basic;
+use std::alloc::Global;
+use type_terms::{Arena, Node, NodeId, Nodes};
+
+/// The node of the type that a number names. A number that names none gives some type, as the definition does; those of a
+/// declaration that is read name one.
+fn node_named(
+    version: u8,
+    number: u64,
+    table: &Table,
+    arena: &mut Arena,
+) -> Result<NodeId, ReadFault>
+    requires inside { AllInside (length arena.old.nodes) table.now.blocks.entries }
+    ensures named { IfOk result (λ id. tree arena.new.nodes id ≡ named_by version arena.old.nodes table.now.blocks.entries number) }
+    ensures within { IfOk result (λ id. id < length arena.new.nodes) }
+    ensures extends { Extends arena.old arena.new }
+    ensures only_memory { IfErr result IsNoFault }
+    ensures full { IsErrOf result ReadFault.Nodes → length arena.new.nodes ≡ arena.new.limit }
+{
+    if number < 32 {
+        let basic = basic_of(version, number).unwrap_or(Basic::Bool);
+        return Ok(arena.add(Node::Predeclared(basic))?);
+    }
+    match table.at(number - 32) {
+        Some(finished) => Ok(finished.node),
+        None => Ok(arena.add(Node::Predeclared(Basic::Bool))?),
+    }
+}
+
+/// The number of a type.
+impl Kept for u64 {
+    ghost use Rattle.std.specs.Prelude.{ℕ, [], ◌∷◌};
+    ghost use Rattle.type_terms.specs.Trees.{Tree};
+    ghost use Rattle.decl_reader.specs.Meant.{number_agrees};
+
+    type Item = NodeId;
+
+    ghost Shape = { ℕ };
+
+    ghost shape = { λ number. number };
+
+    ghost item_shape = { λ id. id };
+
+    ghost types = { λ number. number ∷ [] };
+
+    ghost Meaning = { Tree };
+
+    ghost meant = { λ named number. named number };
+
+    ghost agrees = { number_agrees };
+
+    fn with_nodes(
+        self,
+        _alloc: Global,
+        version: u8,
+        table: &Table,
+        arena: &mut Arena,
+    ) -> Result<NodeId, ReadFault> {
+        node_named(version, self, table, arena)
+    }
+}
+
+/// The numbers of some types.
+#[derive(Drop)]
+pub(crate) struct Numbers {
+    pub(crate) items: Vec<u64>,
+}
+
+impl Kept for Numbers {
+    ghost use Rattle.std.specs.Prelude.{ℕ, List, map};
+    ghost use Rattle.type_terms.specs.Trees.{Tree};
+    ghost use Rattle.decl_reader.specs.Meant.{list_meant, numbers_agree};
+
+    type Item = Nodes;
+
+    ghost Shape = { List ℕ };
+
+    ghost shape = { λ numbers. numbers.items.items };
+
+    ghost item_shape = { λ ids. ids };
+
+    ghost types = { λ numbers. numbers };
+
+    ghost Meaning = { List Tree };
+
+    ghost meant = { λ named numbers. map named numbers };
+
+    ghost agrees = { numbers_agree };
+
+    fn with_nodes(
+        self,
+        alloc: Global,
+        version: u8,
+        table: &Table,
+        arena: &mut Arena,
+    ) -> Result<Nodes, ReadFault> {
+        let ids = all_with_nodes(alloc, self.items, version, table, arena)?;
+        Ok(Nodes::from_items(ids))
+    }
+}
