@@ -15,7 +15,7 @@ use Rattle.decl_reader.specs.Calls.{source_of}
 use Rattle.decl_reader.specs.Leads.{lead}
 
 -- the bytes of the sections are bytes of the file
-are_bytes : (p : Parts) → IsBytes p.file.now → AreBytes (source_of p)
+pub are_bytes : (p : Parts) → IsBytes p.file.now → AreBytes (source_of p)
 are_bytes p fits = record {
   strings = IsBytes-take _ _ (IsBytes-drop p.strings_at p.file.now fits);
   body = IsBytes-take _ _ (IsBytes-drop p.body_at p.file.now fits);

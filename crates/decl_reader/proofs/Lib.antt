@@ -11,3 +11,4 @@ pub mod Closings
 pub mod Running
 pub mod Extended
 pub mod Generic
+pub mod Wholes

@@ -8,3 +8,4 @@ pub mod Blocks
 pub mod Frames
 pub mod Opens
 pub mod Meant
+pub mod Wholes

@@ -4,6 +4,8 @@ ghost use Rattle.std.specs.Prelude.{◌≡◌};
 ghost use Rattle.code_tables.specs.Basic.{basic_code, basic_values};
 ghost use Rattle.code_tables.specs.TypeTag.{type_tag_code, type_tag_values};
 ghost use Rattle.code_tables.specs.DeclTag.{decl_tag_code, decl_tag_values};
+ghost use Rattle.type_terms.specs.Trees.{predeclared};
+ghost use Rattle.decl_spelling.specs.Tables.{basic_tree};
 ghost use Rattle.decl_spelling.specs.Codes.{coded, basic_of, type_tag_of, decl_tag_of, dir_of};
 
 use code_tables::{Basic, DeclTag, TypeTag, basics, decl_tags, type_tags};
@@ -17,6 +19,14 @@ pub(crate) fn basic_of(version: u8, number: u64) -> Option<Basic>
         return None;
     }
     coded_basic(number)
+}
+
+/// The predeclared type of a number. One that has none gives some type, as the definition does; those of a declaration that is read
+/// have one.
+pub(crate) fn basic_named(version: u8, number: u64) -> Basic
+    ensures { predeclared result ≡ basic_tree (basic_of version number) }
+{
+    basic_of(version, number).unwrap_or(Basic::Bool)
 }
 
 fn coded_basic(number: u64) -> Option<Basic>

@@ -42,7 +42,7 @@ pub fn one_head()
 {}
 
 /// Tells a proof what the type of a slice says, which it doesn't know of a slice in a struct behind a reference.
-fn are_bytes(bytes: &[u8])
+pub(crate) fn are_bytes(bytes: &[u8])
     ensures { (i : ℕ) → get_or bytes.now i 0 < 256 }
 {}
 

@@ -6,6 +6,7 @@
 mod basics;
 mod block;
 mod codes;
+mod declaration;
 mod demands;
 mod descent;
 mod fault;
@@ -15,6 +16,7 @@ mod nodes;
 mod table;
 
 pub use basics::Basics;
+pub use declaration::read_decl;
 pub use fault::ReadFault;
 pub use heads::{Head, one_head, read_head};
 

@@ -1,0 +1,160 @@
+//! Reading a whole declaration.
+
+ghost use Rattle.std.specs.Prelude.{◌≡◌, ◌<◌, ◌≤◌, List, [], length, map, IfOk, OnOk, IsErrOf};
+ghost use Rattle.position_codec.specs.FileParts.{IsOfFile};
+ghost use Rattle.type_terms.specs.Arenas.{AllBelow, Extends};
+ghost use Rattle.type_terms.specs.Declarations.{decl_nodes};
+ghost use Rattle.type_terms.specs.Environments.{decl_of};
+ghost use Rattle.decl_spelling.specs.Source.{HoldsBytes, window};
+ghost use Rattle.decl_spelling.specs.Reading.{start};
+ghost use Rattle.decl_spelling.specs.Declarations.{head_at, resolved, after_head, decl_at, FirstFault};
+ghost use Rattle.decl_spelling.specs.Spelling.{SpellsDecl};
+ghost use Rattle.decl_reader.specs.Calls.{source_of, ahead_of};
+ghost use Rattle.decl_reader.specs.Blocks.{table_of};
+ghost use Rattle.decl_reader.specs.Forms.{head_shape};
+ghost use Rattle.decl_reader.specs.Opens.{IsReady};
+ghost use Rattle.decl_reader.specs.Wholes.{IsPart, IsWhole, ReadsDecl, IfFault};
+
+mod constants;
+mod methods;
+mod parts;
+
+use crate::basics::Basics;
+use crate::block::Block;
+use crate::declaration::constants::read_constant;
+use crate::declaration::methods::read_methods;
+use crate::declaration::parts::know_types;
+use crate::fault::ReadFault;
+use crate::flat::{DeclHead, DeclParts, read_declaration_head};
+use crate::heads::are_bytes;
+use crate::nodes::add_declaration;
+use crate::table::Table;
+use position_codec::Parts;
+use std::alloc::Global;
+use type_terms::{Arena, DeclNode};
+
+/// Reads the declaration at an offset of the data section of a full file or a bundle, or answers the first fault in reading order.
+/// A declaration is read from left to right; a descriptor is read where it is first named, once, and stands wholly before the block
+/// that names it. docs/FORMAT.md has the rules, "Declarations". The nodes of its types are added to the arena, also where a fault is
+/// met behind them. `Nodes` comes only where the arena is full.
+///
+/// It takes time near linear in the bytes that the declaration reaches, and memory by the descriptors that it reaches.
+pub fn read_decl<B: Basics>(
+    alloc: Global,
+    parts: &Parts<'_>,
+    offset: u64,
+    basics: &B,
+    arena: &mut Arena,
+) -> Result<DeclNode, ReadFault>
+    requires of_file { IsOfFile parts.now }
+    requires inside { offset < parts.now.body_len }
+    ensures found { IfOk result (λ node. SpellsDecl (source_of parts.now) (B.meaning basics.now) offset (decl_of arena.new.nodes node)) }
+    ensures fault { IfFault result (FirstFault (source_of parts.now) (B.meaning basics.now) offset) }
+    ensures exact { ReadsDecl result arena.new.nodes (decl_at (source_of parts.now) (B.meaning basics.now) offset) }
+    ensures within { IfOk result (λ node. AllBelow (length arena.new.nodes) (decl_nodes node)) }
+    ensures extends { Extends arena.old arena.new }
+    ensures full { IsErrOf result ReadFault.Nodes → length arena.new.nodes ≡ arena.new.limit }
+{
+    are_bytes(parts.file);
+    read_whole(alloc, parts, offset, basics, arena)
+}
+
+/// The declaration, by the deciding function alone.
+fn read_whole<B: Basics>(
+    alloc: Global,
+    parts: &Parts<'_>,
+    offset: u64,
+    basics: &B,
+    arena: &mut Arena,
+) -> Result<DeclNode, ReadFault>
+    requires of_file { IsOfFile parts.now }
+    requires bytes { HoldsBytes (source_of parts.now) }
+    requires inside { offset < parts.now.body_len }
+    ensures exact { ReadsDecl result arena.new.nodes (decl_at (source_of parts.now) (B.meaning basics.now) offset) }
+    ensures within { IfOk result (λ node. AllBelow (length arena.new.nodes) (decl_nodes node)) }
+    ensures extends { Extends arena.old arena.new }
+    ensures full { IsErrOf result ReadFault.Nodes → length arena.new.nodes ≡ arena.new.limit }
+{
+    let mut table = Table::new(alloc);
+    let mut block = Block::new(alloc, parts, offset, parts.body_len);
+    let head = read_head_types(alloc, parts, offset, &mut block, &mut table, arena)?;
+    let whole = read_rest(
+        alloc, parts, offset, head, basics, &mut block, &mut table, arena,
+    )?;
+    add_declaration(alloc, parts.version, whole, &table, arena)
+}
+
+/// A declaration up to where its types decide what follows, and these types.
+fn read_head_types(
+    alloc: Global,
+    parts: &Parts<'_>,
+    offset: u64,
+    block: &mut Block<'_>,
+    table: &mut Table,
+    arena: &mut Arena,
+) -> Result<DeclHead, ReadFault>
+    requires of_file { IsOfFile parts.now }
+    requires bytes { HoldsBytes (source_of parts.now) }
+    requires ready { IsReady (length arena.old.nodes) table.old.blocks.entries }
+    requires within { offset ≤ parts.now.body_len }
+    ensures exact { IsPart head_shape result (ahead_of block.new) (table_of arena.new.nodes table.new.blocks.entries) (resolved (source_of parts.now) offset (head_at (source_of parts.now) (ahead_of block.old)) (table_of arena.old.nodes table.old.blocks.entries)) }
+    ensures extends { Extends arena.old arena.new }
+    ensures ready { OnOk result (IsReady (length arena.new.nodes) table.new.blocks.entries) }
+    ensures full { IsErrOf result ReadFault.Nodes → length arena.new.nodes ≡ arena.new.limit }
+{
+    match read_declaration_head(alloc, parts, block) {
+        Ok(head) => {
+            know_types(alloc, parts, offset, block, table, arena)?;
+            Ok(head)
+        }
+        Err(ReadFault::Bytes(fault)) => {
+            // A fault of the types that stand before it comes first.
+            know_types(alloc, parts, offset, block, table, arena)?;
+            Err(ReadFault::Bytes(fault))
+        }
+        // Reading bytes adds no node.
+        Err(ReadFault::Nodes | ReadFault::OutOfMemory) => Err(ReadFault::OutOfMemory),
+    }
+}
+
+/// What follows the head of a declaration.
+fn read_rest<B: Basics>(
+    alloc: Global,
+    parts: &Parts<'_>,
+    offset: u64,
+    head: DeclHead,
+    basics: &B,
+    block: &mut Block<'_>,
+    table: &mut Table,
+    arena: &mut Arena,
+) -> Result<DeclParts, ReadFault>
+    requires of_file { IsOfFile parts.now }
+    requires bytes { HoldsBytes (source_of parts.now) }
+    requires ready { IsReady (length arena.old.nodes) table.old.blocks.entries }
+    requires within { offset ≤ parts.now.body_len }
+    ensures exact { IsWhole result (ahead_of block.new) (table_of arena.new.nodes table.new.blocks.entries) (after_head (source_of parts.now) (B.meaning basics.now) offset (head_shape head) (ahead_of block.old) (table_of arena.old.nodes table.old.blocks.entries)) }
+    ensures extends { Extends arena.old arena.new }
+    ensures ready { OnOk result (IsReady (length arena.new.nodes) table.new.blocks.entries) }
+    ensures full { IsErrOf result ReadFault.Nodes → length arena.new.nodes ≡ arena.new.limit }
+{
+    match head {
+        DeclHead::Whole(parts) => Ok(parts),
+        DeclHead::Defined {
+            pos,
+            tparams,
+            underlying,
+        } => {
+            let methods = read_methods(alloc, parts, offset, underlying, block, table, arena)?;
+            Ok(DeclParts::Defined {
+                pos,
+                tparams,
+                underlying,
+                methods,
+            })
+        }
+        DeclHead::Constant { pos, ty, at } => {
+            let value = read_constant(alloc, parts, ty, at, basics, block, table, arena)?;
+            Ok(DeclParts::Constant { pos, ty, value })
+        }
+    }
+}
