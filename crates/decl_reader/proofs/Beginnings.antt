@@ -183,6 +183,7 @@ module _ (src : Source) (holds : HoldsBytes src) (entries : List Entry) (stacked
         is_open = record {
           its_start = omega (arith, large);
           inside = omega (arith, before, within);
+          ends = omega (arith, ends, within);
           few = read.few;
           some = omega arith;
           answered = tt;
@@ -204,6 +205,7 @@ module _ (src : Source) (holds : HoldsBytes src) (entries : List Entry) (stacked
         is_open = record {
           its_start = omega (arith, large);
           inside = omega (arith, before, within);
+          ends = tt;
           few = few;
           some = omega arith;
           answered = tt;

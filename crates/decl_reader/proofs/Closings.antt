@@ -27,7 +27,7 @@ use Rattle.decl_spelling.proofs.Took.{ask_of, shape_asks}
 use Rattle.decl_spelling.proofs.AskedTypes.{mentions_met, base_met}
 use Rattle.decl_spelling.proofs.TableLaws.{found_new, found_still}
 use Rattle.decl_reader.specs.declared.descent.Open.{Open}
-use Rattle.decl_reader.specs.Blocks.{Entry, finished_of, table_of, AllInside, HasRoom, IsStacked}
+use Rattle.decl_reader.specs.Blocks.{Entry, finished_of, table_of, AllInside, EndsBy, HasRoom, IsStacked}
 use Rattle.decl_reader.specs.Meant.{IsGenericFlat}
 use Rattle.decl_reader.specs.Faults.{IsNoFault}
 use Rattle.decl_reader.specs.Frames.{answered, with_shape}
@@ -51,6 +51,13 @@ extended_table old new es extends all = ap (λ (nodes : List Node). table_of nod
 
 pub extended_inside : (old new : Contents) (es : List Entry) → Extends old new → AllInside (length old.nodes) es → AllInside (length new.nodes) es
 extended_inside old new es extends all = inside_more (length old.nodes) (length new.nodes) es (omega (arith, ap length extends.nodes, length-append old.nodes extends.more)) all
+
+pub grown_ready : (limit : ℕ) (old new : Contents) (es after : List Entry) → Extends old new → IsReady limit (length old.nodes) es → after ≡ es → IsReady limit (length new.nodes) after
+grown_ready limit old new es after extends ready same = record {
+  inside = subst (AllInside (length new.nodes)) (sym same) (extended_inside old new es extends ready.inside);
+  ends = subst (EndsBy limit) (sym same) ready.ends;
+  stacked = subst IsStacked (sym same) ready.stacked;
+}
 
 -- ---- the base of an instance
 
@@ -126,7 +133,7 @@ module _ (src : Source) (done : Table) (m : Mention) (start : ℕ) (fin : Placed
 
 -- ---- a descriptor that joined the finished ones
 
-module _ (src : Source) (old new : Contents) (es after : List Entry) (start : ℕ) (x : Flat) (end node : ℕ) (extends : Extends old new) (ready : IsReady (length old.nodes) es)
+module _ (src : Source) (old new : Contents) (es after : List Entry) (start : ℕ) (x : Flat) (end node : ℕ) (extends : Extends old new) (ready : IsReady (length src.body) (length old.nodes) es)
     (added : table_of new.nodes after ≡ with_block (table_of new.nodes es) start (record { end = end; tree = tree new.nodes node })) (denotes : tree new.nodes node ≡ tree_of (retype (type_named src.version (table_of old.nodes es)) x))
     (m : Mention) (its_start : m.value ≡ 32 + start) where
   abbrev done : Table
@@ -165,7 +172,11 @@ no_fault_resolves OutOfMemory t r none = tt
 
 -- what a whole one says of its own bytes
 pub own_is : (src : Source) (done : Table) (es : List Entry) (o : Open) (flat : FlatParts) (end : ℕ) → IsOpen src done es o → o.own ≡ Ok (flat, end) → IsOwn es o.start o.mentions.items (Ok (flat, end))
-own_is src done es o flat end is_open is = subst (IsOwn es o.start o.mentions.items) is is_open.own
+own_is src _ es o flat end is_open is = subst (IsOwn es o.start o.mentions.items) is is_open.own
+
+-- where a whole one ends
+pub own_ends : (src : Source) (done : Table) (es : List Entry) (o : Open) (flat : FlatParts) (end : ℕ) → IsOpen src done es o → o.own ≡ Ok (flat, end) → end ≤ length src.body
+own_ends src _ es o flat end is_open is = subst (λ (own : Result (FlatParts × ℕ) ByteFault). EndsBefore own (length src.body)) is is_open.ends
 
 pub closed_by_finish : (src : Source) (old new : Table) (es after : List Entry) (o : Open) (flat : FlatParts) (end : ℕ) → o.own ≡ Ok (flat, end) → IsFinished src old new es after o.named end → IsClosed src old new es after o
 closed_by_finish src old new es after o flat end is finished = record {

@@ -1,5 +1,5 @@
 -- Finding and adding entries of the table.
-use Rattle.std.proofs.Common.{◌≡◌, ℕ, ◌-◌, ◌<◌, ◌≤◌, Bool, true, false, cond, List, [], ◌∷◌, Option, Some, None, refl, sym, ap, ◌∙◌, inl, inr, ◌⊎◌, arith}
+use Rattle.std.proofs.Common.{◌≡◌, ℕ, ◌+◌, ◌-◌, ◌<◌, ◌≤◌, Bool, true, false, cond, List, [], ◌∷◌, Option, Some, None, refl, sym, ap, ◌∙◌, inl, inr, ◌⊎◌, arith}
 use Rattle.std.specs.Prelude.{option_map, IfSome}
 use Rattle.std.specs.List.{AllByRecursion}
 use Rattle.std.specs.Map.{lookup}
@@ -15,7 +15,7 @@ use Rattle.type_terms.specs.Trees.{predeclared}
 use Rattle.decl_spelling.specs.Codes.{basic_of}
 use Rattle.decl_spelling.specs.Tables.{Table, at, with_block, basic_tree, finished_tree, type_named}
 use Rattle.decl_reader.specs.declared.table.Finished.{Finished}
-use Rattle.decl_reader.specs.Blocks.{Entry, finished_of, table_of, AllInside, HasRoom, IsStacked}
+use Rattle.decl_reader.specs.Blocks.{Entry, finished_of, table_of, AllInside, EndsBy, HasRoom, IsStacked, bytes_of}
 
 abbrev pub found : List Entry → ℕ → Option Finished
 found es offset = lookup (λ start. is_eq (nat_cmp offset start)) es
@@ -67,6 +67,9 @@ module _ (P : Entry → Type 0) where
 
 pub added_inside : (size : ℕ) (es : List Entry) (offset : ℕ) (f : Finished) → AllInside size es → f.node < size → AllInside size (added es offset f)
 added_inside size es offset f all new = added_all (λ e. e.1.node < size) es offset f (λ e same. new) new all
+
+pub added_ends : (limit : ℕ) (es : List Entry) (offset : ℕ) (f : Finished) → EndsBy limit es → f.end ≤ limit → EndsBy limit (added es offset f)
+added_ends limit es offset f all new = added_all (λ e. e.1.end ≤ limit) es offset f (λ e same. new) new all
 
 pub added_room : (from to : ℕ) (es : List Entry) (offset : ℕ) (f : Finished) → f.end ≤ from → HasRoom from to es → HasRoom from to (added es offset f)
 added_room from to es offset f ends all = added_all (λ e. (e.1.end ≤ from) ⊎ (to ≤ e.0)) es offset f (λ e same. inl ends) (inl ends) all
@@ -122,6 +125,18 @@ module _ (offset : ℕ) (f : Finished) (some : offset < f.end) where
   pub added_stacked : (es : List Entry) → IsStacked es → HasRoom offset f.end es → IsStacked (added es offset f)
   added_stacked [] stacked room = (some, tt, tt)
   added_stacked (e ∷ es) stacked room = by_order_stacked e es (nat_cmp offset e.0) refl stacked room (added_stacked es stacked.2 room.1)
+
+  by_order_bytes : (e : Entry) (es : List Entry) (r : Ordering) → nat_cmp offset e.0 ≡ r → e.0 < e.1.end → HasRoom offset f.end (e ∷ es) → bytes_of (added es offset f) ≡ bytes_of es + (f.end - offset)
+      → bytes_of (match_ordering r ((offset, f) ∷ e ∷ es) ((e.0, f) ∷ es) (e ∷ added es offset f)) ≡ bytes_of (e ∷ es) + (f.end - offset)
+  by_order_bytes e es Less is byte room rest = omega arith
+  by_order_bytes e es Equal is byte room rest =
+      let same : offset ≡ e.0 = is_equal offset e.0 is in
+      absurd (elim room.0 [ inl ended ↦ omega (arith, byte) | inr later ↦ omega arith ])
+  by_order_bytes e es Greater is byte room rest = omega (arith, rest)
+
+  pub added_bytes : (es : List Entry) → IsStacked es → HasRoom offset f.end es → bytes_of (added es offset f) ≡ bytes_of es + (f.end - offset)
+  added_bytes [] stacked room = omega arith
+  added_bytes (e ∷ es) stacked room = by_order_bytes e es (nat_cmp offset e.0) refl stacked.0 room (added_bytes es stacked.2 room.1)
 
 -- a number of a descriptor that isn't there names some type
 pub none_named : (version : ℕ) (done : Table) (number : ℕ) → 32 ≤ number → at done (number - 32) ≡ None → predeclared bool_type ≡ type_named version done number

@@ -12,3 +12,4 @@ pub mod Running
 pub mod Extended
 pub mod Generic
 pub mod Wholes
+pub mod Counted

@@ -56,7 +56,7 @@ all_weight most current holders = open_weight most current + holders_weight most
 
 pub record Running (src : Source) (first : Open) (done : Table) (old new : Contents) (entries : List Entry) (current : Open) (holders : List Open) : Type 0 where
   pub extends : Extends old new
-  pub ready : IsReady (length new.nodes) entries
+  pub ready : IsReady (length src.body) (length new.nodes) entries
   pub is_open : IsOpen src (table_of new.nodes entries) entries current
   pub holders_are : AreHolders src (table_of new.nodes entries) entries current holders
   pub same : resumed src current holders (table_of new.nodes entries) ≡ resumed src first [] done
@@ -99,6 +99,7 @@ module _ (src : Source) (first : Open) (done : Table) (old new : Contents) (entr
   one_more_open is h answered = record {
     its_start = is.its_start;
     inside = is.inside;
+    ends = is.ends;
     few = is.few;
     some = omega arith;
     answered = all_taken (IsAnswered src now current.start) current.mentions.items current.known d h is.answered answered;
@@ -149,7 +150,7 @@ module _ (src : Source) (first : Open) (done : Table) (old new : Contents) (entr
 drop_all : {X : Type 0} (xs : List X) (k : ℕ) → k ≡ length xs → drop k xs ≡ []
 drop_all {X} xs k h = ap (λ (n : ℕ). drop n xs) h ∙ drop-length xs
 
-module _ (src : Source) (first : Open) (done : Table) (old mid new : Contents) (before after : List Entry) (current : Open) (extended : Extends mid new) (ready : IsReady (length new.nodes) after) where
+module _ (src : Source) (first : Open) (done : Table) (old mid new : Contents) (before after : List Entry) (current : Open) (extended : Extends mid new) (ready : IsReady (length src.body) (length new.nodes) after) where
   abbrev was : Table
   was = table_of mid.nodes before
 
@@ -174,6 +175,7 @@ module _ (src : Source) (first : Open) (done : Table) (old mid new : Contents) (
   open_stays o is_closed below is = record {
     its_start = is.its_start;
     inside = is.inside;
+    ends = is.ends;
     few = is.few;
     some = is.some;
     answered = weaker_all (IsAnswered src was o.start) (IsAnswered src is_now o.start) (λ m. answered_still src was is_now o.start m is_closed.kept) (take o.known o.mentions.items) is.answered;
@@ -342,7 +344,7 @@ resolves_as r t a b same is = subst (λ (x : Result Table ByteFault). Resolves r
 
 pub record Reading (src : Source) (holder : ℕ) (mentions : List Mention) (done : Table) (old new : Contents) (entries : List Entry) (index : ℕ) : Type 0 where
   pub extends : Extends old new
-  pub ready : IsReady (length new.nodes) entries
+  pub ready : IsReady (length src.body) (length new.nodes) entries
   pub same : resolve_all src (reads src) holder (drop index mentions) (table_of new.nodes entries) ≡ resolve_all src (reads src) holder mentions done
 
 module _ (src : Source) (holder : ℕ) (mentions : List Mention) (done : Table) (old mid : Contents) (before : List Entry) (index : ℕ) (d : Mention) (reading : Reading src holder mentions done old mid before index) (h : index < length mentions) where
@@ -352,7 +354,7 @@ module _ (src : Source) (holder : ℕ) (mentions : List Mention) (done : Table) 
   first_of : resolve_all src (reads src) holder (drop index mentions) (table_of mid.nodes before) ≡ (resolve src (reads src) holder mention (table_of mid.nodes before) >>= resolve_all src (reads src) holder (drop (index + 1) mentions))
   first_of = ap (λ (ms : List Mention). resolve_all src (reads src) holder ms (table_of mid.nodes before)) (next_is mentions index d h)
 
-  pub reads_on : (new : Contents) (after : List Entry) → Extends mid new → IsReady (length new.nodes) after → resolve src (reads src) holder mention (table_of mid.nodes before) ≡ Ok (table_of new.nodes after)
+  pub reads_on : (new : Contents) (after : List Entry) → Extends mid new → IsReady (length src.body) (length new.nodes) after → resolve src (reads src) holder mention (table_of mid.nodes before) ≡ Ok (table_of new.nodes after)
       → Reading src holder mentions done old new after (index + 1)
   reads_on new after extended ready known = record {
     extends = record {

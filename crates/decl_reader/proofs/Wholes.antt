@@ -99,6 +99,9 @@ module _ (src : Source) (basics : Basics) (offset : ℕ) where
   unfolding read_at
   both_parts head a known is = sym (ap (λ (r : Result ((Head × Ahead) × Table) ByteFault). r >>= λ x. after_head src basics offset (x.0).0 (x.0).1 x.1) is)
 
+  pub whole_read : (head : Head) (a : Ahead) (known : Table) (x : Read) → first_part ≡ Ok ((head, a), known) → after_head src basics offset head a known ≡ Ok x → read_at src basics offset ≡ Ok x
+  whole_read head a known x is rest = sym (both_parts head a known is) ∙ rest
+
   pub rest_faults : (head : Head) (a : Ahead) (known : Table) (e : ReadFault) → first_part ≡ Ok ((head, a), known) → FaultIs e (after_head src basics offset head a known) → FaultIs e (decl_at src basics offset)
   rest_faults head a known e is rest =
       then_fault (read_at src basics offset) (λ x. Ok (decl_read src x)) e (fault_as (after_head src basics offset head a known) (read_at src basics offset) e (both_parts head a known is) rest)

@@ -1,5 +1,5 @@
 -- The descriptors that were read whole, as the code keeps them: by their offsets, with the nodes of their types.
-use Rattle.std.specs.Prelude.{◌≡◌, ℕ, ◌<◌, ◌≤◌, ◌⊎◌, List, [], ◌∷◌, ◌++◌, map, Bool, false, nat_lt, Option, Some, None}
+use Rattle.std.specs.Prelude.{◌≡◌, ℕ, ◌+◌, ◌-◌, ◌<◌, ◌≤◌, ◌⊎◌, List, [], ◌∷◌, ◌++◌, map, Bool, false, nat_lt, Option, Some, None}
 use Rattle.std.specs.List.{AllByRecursion}
 use Rattle.std.specs.Ordering.{nat_cmp}
 use Rattle.std.specs.declared.ops.Bound.TheVariants.{Included, Unbounded}
@@ -25,6 +25,15 @@ table_of nodes entries = map (entry_of nodes) entries
 -- their nodes are among so many
 abbrev pub AllInside : ℕ → List Entry → Type 0
 AllInside size = AllByRecursion (λ entry. entry.1.node < size)
+
+-- each ends at a limit or before it
+abbrev pub EndsBy : ℕ → List Entry → Type 0
+EndsBy limit = AllByRecursion (λ entry. entry.1.end ≤ limit)
+
+-- how many bytes they have
+abbrev pub bytes_of : List Entry → ℕ
+bytes_of [] = 0
+bytes_of (entry ∷ rest) = entry.1.end - entry.0 + bytes_of rest
 
 -- none of them has a byte from one offset up to another
 abbrev pub HasRoom : ℕ → ℕ → List Entry → Type 0

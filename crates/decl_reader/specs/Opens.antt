@@ -19,17 +19,22 @@ use Rattle.decl_reader.specs.declared.descent.Open.{Open}
 use Rattle.decl_reader.specs.declared.fault.ReadFault.{ReadFault}
 use Rattle.decl_reader.specs.declared.fault.ReadFault.TheVariants.{Bytes, Nodes, OutOfMemory}
 use Rattle.decl_reader.specs.Shapes.{flat_shape}
-use Rattle.decl_reader.specs.Blocks.{Entry, AllInside, HasRoom, IsStacked}
+use Rattle.decl_reader.specs.Blocks.{Entry, AllInside, EndsBy, HasRoom, IsStacked, bytes_of}
 use Rattle.decl_reader.specs.Frames.{Frame, closed_by, resume}
 
--- the nodes of the table are in the arena, and its blocks are in order
-pub record IsReady (size : ℕ) (entries : List Entry) : Type 0 where
+-- the nodes of the table are in the arena, and its blocks are in order and in the data section
+pub record IsReady (limit size : ℕ) (entries : List Entry) : Type 0 where
   pub inside : AllInside size entries
+  pub ends : EndsBy limit entries
   pub stacked : IsStacked entries
 
 -- each descriptor of the data section may be read
 abbrev pub reads : Source → ReadsBlock
 reads src = block_at src (length src.body)
+
+-- the steps that were taken are the bytes that the table got
+abbrev pub Counts : ℕ → List Entry → ℕ → List Entry → Type 0
+Counts steps entries after more = after + bytes_of entries ≡ steps + bytes_of more
 
 -- the table that a call left is what reading gives; want of memory says nothing
 abbrev pub Resolves : Result (Unit {0}) ReadFault → Table → Result Table ByteFault → Type 0
@@ -63,20 +68,22 @@ abbrev pub IsOwn : List Entry → ℕ → List Mention → Result (Flat × ℕ) 
 IsOwn entries start mentions (Ok x) = (map ask_of mentions ≡ shape_asks (flat_shape x.0)) × HasArgument (flat_shape x.0) × (start < x.1) × HasRoom start x.1 entries
 IsOwn entries start mentions (Err f) = Unit {0}
 
+-- it ends at an offset or before it, if it has an end
+abbrev pub EndsBefore : Result (Flat × ℕ) ByteFault → ℕ → Type 0
+EndsBefore (Ok x) offset = x.1 ≤ offset
+EndsBefore (Err f) offset = Unit {0}
+
 -- some of its mentions are known
 pub record IsOpen (src : Source) (done : Table) (entries : List Entry) (o : Open) : Type 0 where
   pub its_start : o.named.value ≡ 32 + o.start
   pub inside : o.start < length src.body
+  pub ends : EndsBefore o.own (length src.body)
   pub few : length o.mentions.items ≤ length src.body
   pub some : o.known ≤ length o.mentions.items
   pub answered : AllByRecursion (IsAnswered src done o.start) (take o.known o.mentions.items)
   pub own : IsOwn entries o.start o.mentions.items o.own
 
--- it starts before an offset, and ends at it or before it if it has an end
-abbrev pub EndsBefore : Result (Flat × ℕ) ByteFault → ℕ → Type 0
-EndsBefore (Ok x) offset = x.1 ≤ offset
-EndsBefore (Err f) offset = Unit {0}
-
+-- it starts and ends before an offset
 abbrev pub IsBelow : Open → ℕ → Type 0
 IsBelow o offset = (o.start < offset) × EndsBefore o.own offset
 

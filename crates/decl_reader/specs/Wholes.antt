@@ -1,5 +1,6 @@
 -- What the calls that read a declaration answer.
-use Rattle.std.specs.Prelude.{◌≡◌, ℕ, List, [], Bool, true, false, Result, Ok, Err, Option}
+use Rattle.std.specs.Prelude.{◌≡◌, ℕ, ◌+◌, ◌-◌, List, [], Bool, true, false, Result, Ok, Err, Option}
+use Rattle.std.specs.List.{sum_by}
 use Rattle.code_tables.specs.declared.predeclared.Basic.{Basic}
 use Rattle.code_tables.specs.declared.constants.Const.{Const}
 use Rattle.wire_bytes.specs.declared.fault.ByteFault.{ByteFault}
@@ -50,6 +51,10 @@ IsValue (Err e) ahead read = FaultIs e read
 abbrev pub IsWhole : Result DeclParts ReadFault → Ahead → Table → Result Read ByteFault → Type 0
 IsWhole (Ok parts) ahead known read = read ≡ Ok (record { form = decl_form parts; end = place ahead.spot; table = known })
 IsWhole (Err e) ahead known read = FaultIs e read
+
+-- the bytes of the descriptors that a declaration reaches, each once, and its own
+abbrev pub reached : Source → ℕ → Read → ℕ
+reached src offset x = sum_by (λ entry. entry.1.end - entry.0) x.table + (x.end - (src.body_at + offset))
 
 -- a declaration whose types are nodes
 abbrev pub ReadsDecl : Result DeclNode ReadFault → List Node → Result Decl ByteFault → Type 0

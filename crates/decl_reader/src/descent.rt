@@ -6,7 +6,7 @@ ghost use Rattle.type_terms.specs.Arenas.{Extends};
 ghost use Rattle.decl_spelling.specs.Tables.{at};
 ghost use Rattle.decl_spelling.specs.Codes.{basic_of};
 ghost use Rattle.decl_spelling.specs.Descent.{resolve, resolve_all, named_at as renamed};
-ghost use Rattle.position_codec.specs.FileParts.{IsOfFile};
+ghost use Rattle.position_codec.specs.FileParts.{IsOfFile, body_of};
 ghost use Rattle.decl_reader.specs.Calls.{source_of};
 ghost use Rattle.decl_spelling.specs.Source.{HoldsBytes};
 ghost use Rattle.type_terms.specs.declared.descriptors.Node.{Node};
@@ -15,7 +15,7 @@ ghost use Rattle.decl_reader.specs.Blocks.{table_of, finished_of, IsStacked, Has
 ghost use Rattle.decl_reader.specs.Meant.{IsGenericFlat};
 ghost use Rattle.decl_reader.specs.Shapes.{flat_shape};
 ghost use Rattle.decl_reader.specs.Frames.{answered, closed, with_shape};
-ghost use Rattle.decl_reader.specs.Opens.{reads, frame_of, IsReady, IsOpen, IsBegun, IsClosed, IsFinished, Resolves, Begins, resumed, checked_basic, checked_type, checked_finished};
+ghost use Rattle.decl_reader.specs.Opens.{reads, frame_of, IsReady, Counts, IsOpen, IsBegun, IsClosed, IsFinished, Resolves, Begins, resumed, checked_basic, checked_type, checked_finished};
 
 use crate::block::Block;
 use crate::codes::basic_of;
@@ -27,6 +27,8 @@ use crate::table::{Finished, Table};
 use decl_spelling::Mention;
 use position_codec::Parts;
 use std::alloc::Global;
+use std::sync::ledger::Ledger;
+use steps::Steps;
 use type_terms::{Arena, NodeId};
 use wire_bytes::ByteFault;
 
@@ -44,68 +46,74 @@ pub(crate) struct Open {
 }
 
 /// Reads the types that a block names, for a block that starts at `holder` in the data section.
-pub(crate) fn read_types(
+pub(crate) fn read_types<L: Ledger>(
     alloc: Global,
     parts: &Parts<'_>,
     holder: u64,
     mentions: &[Mention],
     table: &mut Table,
     arena: &mut Arena,
+    steps: &mut Steps<L>,
 ) -> Result<(), ReadFault>
     requires sections { IsOfFile parts.now }
     requires bytes { HoldsBytes (source_of parts.now) }
-    requires ready { IsReady (length arena.old.nodes) table.old.blocks.entries }
+    requires ready { IsReady (length (body_of parts.now)) (length arena.old.nodes) table.old.blocks.entries }
     requires within { holder ≤ parts.now.body_len }
     ensures exact { Resolves result (table_of arena.new.nodes table.new.blocks.entries) (resolve_all (source_of parts.now) (reads (source_of parts.now)) holder mentions.now (table_of arena.old.nodes table.old.blocks.entries)) }
     ensures extends { Extends arena.old arena.new }
-    ensures ready { OnOk result (IsReady (length arena.new.nodes) table.new.blocks.entries) }
+    ensures ready { IsReady (length (body_of parts.now)) (length arena.new.nodes) table.new.blocks.entries }
+    ensures counted { Counts steps.old table.old.blocks.entries steps.new table.new.blocks.entries }
     ensures full { IsErrOf result ReadFault.Nodes → length arena.new.nodes ≡ arena.new.limit }
 {
     for mention in mentions {
-        read_type(alloc, parts, holder, *mention, table, arena)?;
+        read_type(alloc, parts, holder, *mention, table, arena, steps)?;
     }
     Ok(())
 }
 
 /// Reads the type of a mention, with all that it reaches.
-fn read_type(
+fn read_type<L: Ledger>(
     alloc: Global,
     parts: &Parts<'_>,
     holder: u64,
     named: Mention,
     table: &mut Table,
     arena: &mut Arena,
+    steps: &mut Steps<L>,
 ) -> Result<(), ReadFault>
     requires sections { IsOfFile parts.now }
     requires bytes { HoldsBytes (source_of parts.now) }
-    requires ready { IsReady (length arena.old.nodes) table.old.blocks.entries }
+    requires ready { IsReady (length (body_of parts.now)) (length arena.old.nodes) table.old.blocks.entries }
     requires within { holder ≤ parts.now.body_len }
     ensures exact { Resolves result (table_of arena.new.nodes table.new.blocks.entries) (resolve (source_of parts.now) (reads (source_of parts.now)) holder named (table_of arena.old.nodes table.old.blocks.entries)) }
     ensures extends { Extends arena.old arena.new }
-    ensures ready { OnOk result (IsReady (length arena.new.nodes) table.new.blocks.entries) }
+    ensures ready { IsReady (length (body_of parts.now)) (length arena.new.nodes) table.new.blocks.entries }
+    ensures counted { Counts steps.old table.old.blocks.entries steps.new table.new.blocks.entries }
     ensures full { IsErrOf result ReadFault.Nodes → length arena.new.nodes ≡ arena.new.limit }
 {
     match begin(alloc, parts, holder, named, table, arena)? {
-        Some(first) => read_open(alloc, parts, first, table, arena),
+        Some(first) => read_open(alloc, parts, first, table, arena, steps),
         None => Ok(()),
     }
 }
 
 /// Reads an open descriptor to its end, with all that it reaches.
-fn read_open(
+fn read_open<L: Ledger>(
     alloc: Global,
     parts: &Parts<'_>,
     first: Open,
     table: &mut Table,
     arena: &mut Arena,
+    steps: &mut Steps<L>,
 ) -> Result<(), ReadFault>
     requires sections { IsOfFile parts.now }
     requires bytes { HoldsBytes (source_of parts.now) }
-    requires ready { IsReady (length arena.old.nodes) table.old.blocks.entries }
+    requires ready { IsReady (length (body_of parts.now)) (length arena.old.nodes) table.old.blocks.entries }
     requires first { IsOpen (source_of parts.now) (table_of arena.old.nodes table.old.blocks.entries) table.old.blocks.entries first }
     ensures exact { Resolves result (table_of arena.new.nodes table.new.blocks.entries) (resumed (source_of parts.now) first [] (table_of arena.old.nodes table.old.blocks.entries)) }
     ensures extends { Extends arena.old arena.new }
-    ensures ready { OnOk result (IsReady (length arena.new.nodes) table.new.blocks.entries) }
+    ensures ready { IsReady (length (body_of parts.now)) (length arena.new.nodes) table.new.blocks.entries }
+    ensures counted { Counts steps.old table.old.blocks.entries steps.new table.new.blocks.entries }
     ensures full { IsErrOf result ReadFault.Nodes → length arena.new.nodes ≡ arena.new.limit }
 {
     let mut holders: Vec<Open> = Vec::new(alloc);
@@ -121,7 +129,7 @@ fn read_open(
                 }
             }
         } else {
-            close(alloc, parts, current, table, arena)?;
+            close(alloc, parts, current, table, arena, steps)?;
             match holders.pop() {
                 None => return Ok(()),
                 Some(holder) => {
@@ -144,7 +152,7 @@ fn begin(
 ) -> Result<Option<Open>, ReadFault>
     requires sections { IsOfFile parts.now }
     requires bytes { HoldsBytes (source_of parts.now) }
-    requires ready { IsReady (length arena.now.nodes) table.now.blocks.entries }
+    requires ready { IsReady (length (body_of parts.now)) (length arena.now.nodes) table.now.blocks.entries }
     requires within { holder ≤ parts.now.body_len }
     ensures { Begins (source_of parts.now) (table_of arena.now.nodes table.now.blocks.entries) table.now.blocks.entries holder named result }
 {
@@ -238,22 +246,24 @@ fn open_at(
 }
 
 /// A descriptor whose types are known joins the finished ones, and is what its holder asks for.
-fn close(
+fn close<L: Ledger>(
     alloc: Global,
     parts: &Parts<'_>,
     block: Open,
     table: &mut Table,
     arena: &mut Arena,
+    steps: &mut Steps<L>,
 ) -> Result<(), ReadFault>
     requires sections { IsOfFile parts.now }
     requires bytes { HoldsBytes (source_of parts.now) }
-    requires ready { IsReady (length arena.old.nodes) table.old.blocks.entries }
+    requires ready { IsReady (length (body_of parts.now)) (length arena.old.nodes) table.old.blocks.entries }
     requires is_open { IsOpen (source_of parts.now) (table_of arena.old.nodes table.old.blocks.entries) table.old.blocks.entries block }
     requires all { block.known ≡ length block.mentions.items }
     ensures exact { Resolves result (table_of arena.new.nodes table.new.blocks.entries) (closed parts.now.version (frame_of block) (table_of arena.old.nodes table.old.blocks.entries)) }
     ensures closed { OnOk result (IsClosed (source_of parts.now) (table_of arena.old.nodes table.old.blocks.entries) (table_of arena.new.nodes table.new.blocks.entries) table.old.blocks.entries table.new.blocks.entries block) }
     ensures extends { Extends arena.old arena.new }
-    ensures ready { OnOk result (IsReady (length arena.new.nodes) table.new.blocks.entries) }
+    ensures ready { IsReady (length (body_of parts.now)) (length arena.new.nodes) table.new.blocks.entries }
+    ensures counted { Counts steps.old table.old.blocks.entries steps.new table.new.blocks.entries }
     ensures full { IsErrOf result ReadFault.Nodes → length arena.new.nodes ≡ arena.new.limit }
 {
     let Open {
@@ -263,13 +273,13 @@ fn close(
         ..
     } = block;
     match own {
-        Ok((flat, end)) => finish(alloc, parts, start, named, flat, end, table, arena),
+        Ok((flat, end)) => finish(alloc, parts, start, named, flat, end, table, arena, steps),
         Err(fault) => Err(ReadFault::Bytes(named_at(named, fault))),
     }
 }
 
-/// What a descriptor spells joins the finished ones, and is what its holder asks for.
-fn finish(
+/// What a descriptor spells joins the finished ones, and is what its holder asks for. One step is one byte that was read.
+fn finish<L: Ledger>(
     alloc: Global,
     parts: &Parts<'_>,
     start: u64,
@@ -278,20 +288,24 @@ fn finish(
     end: u64,
     table: &mut Table,
     arena: &mut Arena,
+    steps: &mut Steps<L>,
 ) -> Result<(), ReadFault>
-    requires ready { IsReady (length arena.old.nodes) table.old.blocks.entries }
+    requires ready { IsReady (length (body_of parts.now)) (length arena.old.nodes) table.old.blocks.entries }
     requires generic { IsGenericFlat parts.now.version (table_of arena.old.nodes table.old.blocks.entries) (flat_shape flat) }
     requires its_start { named.value ≡ 32 + start }
     requires some { start < end }
+    requires inside { end ≤ length (body_of parts.now) }
     requires room { HasRoom start end table.old.blocks.entries }
     ensures exact { Resolves result (table_of arena.new.nodes table.new.blocks.entries) (answered parts.now.version named (with_shape parts.now.version start (flat_shape flat, end) (table_of arena.old.nodes table.old.blocks.entries))) }
     ensures finished { OnOk result (IsFinished (source_of parts.now) (table_of arena.old.nodes table.old.blocks.entries) (table_of arena.new.nodes table.new.blocks.entries) table.old.blocks.entries table.new.blocks.entries named end) }
     ensures extends { Extends arena.old arena.new }
-    ensures ready { OnOk result (IsReady (length arena.new.nodes) table.new.blocks.entries) }
+    ensures ready { IsReady (length (body_of parts.now)) (length arena.new.nodes) table.new.blocks.entries }
+    ensures counted { Counts steps.old table.old.blocks.entries steps.new table.new.blocks.entries }
     ensures full { IsErrOf result ReadFault.Nodes → length arena.new.nodes ≡ arena.new.limit }
 {
     let node = add_flat(alloc, parts.version, flat, table, arena)?;
     table.insert(start, Finished { end, node })?;
+    steps.add(end - start);
     check_node(named, node, arena)?;
     Ok(())
 }

@@ -1,9 +1,9 @@
 //! The descriptors that were read whole in the reading of one declaration.
 
-ghost use Rattle.std.specs.Prelude.{◌≡◌, ◌<◌, ◌≤◌, List, [], ℕ, OnOk, OnErr, IfSome, option_map};
+ghost use Rattle.std.specs.Prelude.{◌≡◌, ◌+◌, ◌-◌, ◌<◌, ◌≤◌, List, [], ℕ, OnOk, OnErr, IfSome, option_map};
 ghost use Rattle.type_terms.specs.declared.descriptors.Node.{Node};
 ghost use Rattle.decl_spelling.specs.Tables.{at, free_to, with_block};
-ghost use Rattle.decl_reader.specs.Blocks.{table_of, finished_of, AllInside, IsStacked, HasRoom, up_to, from, Covers, StartsFirst};
+ghost use Rattle.decl_reader.specs.Blocks.{table_of, finished_of, AllInside, EndsBy, IsStacked, bytes_of, HasRoom, up_to, from, Covers, StartsFirst};
 
 use std::alloc::{AllocError, Global};
 use std::collections::BTreeMap;
@@ -44,6 +44,8 @@ impl Table {
     pub(crate) fn insert(&mut self, offset: u64, finished: Finished) -> Result<(), AllocError>
         ensures added { OnOk result ((nodes : List Node) → table_of nodes self.new.blocks.entries ≡ with_block (table_of nodes self.old.blocks.entries) offset (finished_of nodes finished)) }
         ensures inside { OnOk result ((size : ℕ) → AllInside size self.old.blocks.entries → finished.node < size → AllInside size self.new.blocks.entries) }
+        ensures ends { OnOk result ((limit : ℕ) → EndsBy limit self.old.blocks.entries → finished.end ≤ limit → EndsBy limit self.new.blocks.entries) }
+        ensures bytes { OnOk result (IsStacked self.old.blocks.entries → offset < finished.end → HasRoom offset finished.end self.old.blocks.entries → bytes_of self.new.blocks.entries ≡ bytes_of self.old.blocks.entries + (finished.end - offset)) }
         ensures stacked { OnOk result (IsStacked self.old.blocks.entries → offset < finished.end → HasRoom offset finished.end self.old.blocks.entries → IsStacked self.new.blocks.entries) }
         ensures room { OnOk result ((from to : ℕ) → finished.end ≤ from → HasRoom from to self.old.blocks.entries → HasRoom from to self.new.blocks.entries) }
         ensures refused { OnErr result (self.new.blocks.entries ≡ self.old.blocks.entries) }

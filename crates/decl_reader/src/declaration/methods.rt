@@ -1,7 +1,7 @@
 //! The methods of a defined type.
 
 ghost use Rattle.std.specs.Prelude.{◌≡◌, ◌≤◌, ℕ, length, map, OnOk, IsErrOf};
-ghost use Rattle.position_codec.specs.FileParts.{IsOfFile};
+ghost use Rattle.position_codec.specs.FileParts.{IsOfFile, body_of};
 ghost use Rattle.type_terms.specs.Arenas.{Extends};
 ghost use Rattle.type_terms.specs.NodeShapes.{node_shape};
 ghost use Rattle.type_terms.specs.Shapes.{retype};
@@ -13,7 +13,7 @@ ghost use Rattle.decl_spelling.specs.Declarations.{has_methods, receiver_at, res
 ghost use Rattle.decl_reader.specs.Calls.{source_of, ahead_of};
 ghost use Rattle.decl_reader.specs.Blocks.{AllInside, table_of};
 ghost use Rattle.decl_reader.specs.Forms.{receiver_shape};
-ghost use Rattle.decl_reader.specs.Opens.{IsReady};
+ghost use Rattle.decl_reader.specs.Opens.{IsReady, Counts};
 ghost use Rattle.decl_reader.specs.Wholes.{IsPart, methods_by};
 
 use crate::block::Block;
@@ -25,10 +25,12 @@ use crate::table::Table;
 use code_tables::Basic;
 use position_codec::Parts;
 use std::alloc::Global;
+use std::sync::ledger::Ledger;
+use steps::Steps;
 use type_terms::{Arena, Node};
 
 /// The methods of a defined type with this underlying type, and the types that they name.
-pub(crate) fn read_methods(
+pub(crate) fn read_methods<L: Ledger>(
     alloc: Global,
     parts: &Parts<'_>,
     offset: u64,
@@ -36,49 +38,53 @@ pub(crate) fn read_methods(
     block: &mut Block<'_>,
     table: &mut Table,
     arena: &mut Arena,
+    steps: &mut Steps<L>,
 ) -> Result<Vec<ReceiverParts>, ReadFault>
     requires of_file { IsOfFile parts.now }
     requires bytes { HoldsBytes (source_of parts.now) }
-    requires ready { IsReady (length arena.old.nodes) table.old.blocks.entries }
+    requires ready { IsReady (length (body_of parts.now)) (length arena.old.nodes) table.old.blocks.entries }
     requires within { offset ≤ parts.now.body_len }
     ensures exact { IsPart (λ v. map receiver_shape v.items) result (ahead_of block.new) (table_of arena.new.nodes table.new.blocks.entries) (methods_by (source_of parts.now) offset (ahead_of block.old) (table_of arena.old.nodes table.old.blocks.entries) (has_methods (type_named parts.now.version (table_of arena.old.nodes table.old.blocks.entries) underlying))) }
     ensures extends { Extends arena.old arena.new }
-    ensures ready { OnOk result (IsReady (length arena.new.nodes) table.new.blocks.entries) }
+    ensures ready { IsReady (length (body_of parts.now)) (length arena.new.nodes) table.new.blocks.entries }
+    ensures counted { Counts steps.old table.old.blocks.entries steps.new table.new.blocks.entries }
     ensures full { IsErrOf result ReadFault.Nodes → length arena.new.nodes ≡ arena.new.limit }
 {
     if has_methods(parts.version, underlying, table, arena) {
-        read_receiver_types(alloc, parts, offset, block, table, arena)
+        read_receiver_types(alloc, parts, offset, block, table, arena, steps)
     } else {
         Ok(Vec::new(alloc))
     }
 }
 
 /// A list of methods, and the types that they name.
-fn read_receiver_types(
+fn read_receiver_types<L: Ledger>(
     alloc: Global,
     parts: &Parts<'_>,
     offset: u64,
     block: &mut Block<'_>,
     table: &mut Table,
     arena: &mut Arena,
+    steps: &mut Steps<L>,
 ) -> Result<Vec<ReceiverParts>, ReadFault>
     requires of_file { IsOfFile parts.now }
     requires bytes { HoldsBytes (source_of parts.now) }
-    requires ready { IsReady (length arena.old.nodes) table.old.blocks.entries }
+    requires ready { IsReady (length (body_of parts.now)) (length arena.old.nodes) table.old.blocks.entries }
     requires within { offset ≤ parts.now.body_len }
     ensures exact { IsPart (λ v. map receiver_shape v.items) result (ahead_of block.new) (table_of arena.new.nodes table.new.blocks.entries) (resolved (source_of parts.now) offset (list_at (receiver_at (source_of parts.now)) (ahead_of block.old)) (table_of arena.old.nodes table.old.blocks.entries)) }
     ensures extends { Extends arena.old arena.new }
-    ensures ready { OnOk result (IsReady (length arena.new.nodes) table.new.blocks.entries) }
+    ensures ready { IsReady (length (body_of parts.now)) (length arena.new.nodes) table.new.blocks.entries }
+    ensures counted { Counts steps.old table.old.blocks.entries steps.new table.new.blocks.entries }
     ensures full { IsErrOf result ReadFault.Nodes → length arena.new.nodes ≡ arena.new.limit }
 {
     match read_receivers(alloc, parts, block) {
         Ok(receivers) => {
-            know_types(alloc, parts, offset, block, table, arena)?;
+            know_types(alloc, parts, offset, block, table, arena, steps)?;
             Ok(receivers)
         }
         Err(ReadFault::Bytes(fault)) => {
             // A fault of the types that stand before it comes first.
-            know_types(alloc, parts, offset, block, table, arena)?;
+            know_types(alloc, parts, offset, block, table, arena, steps)?;
             Err(ReadFault::Bytes(fault))
         }
         // Reading bytes adds no node.

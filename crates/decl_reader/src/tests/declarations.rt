@@ -1,11 +1,15 @@
 //! Declarations of known bytes, and bytes that are none.
 
+ghost use Rattle.std.specs.Prelude.{◌≡◌, ◌<◌};
 ghost use Rattle.position_codec.specs.FileParts.{IsOfFile};
 
 use crate::{Basics, ReadFault, read_decl};
 use code_tables::{Basic, Const, Pos};
 use position_codec::{Parts, Shape3, TextSpan};
 use std::alloc::Global;
+use std::marker::Brand;
+use std::sync::ledger::{Blank, Ledger};
+use steps::Steps;
 use type_terms::{Arena, DeclNode};
 use wire_bytes::ByteFault;
 
@@ -87,7 +91,24 @@ fn read_at(
     if offset >= parts.body_len {
         return None;
     }
-    Some(read_decl(alloc, parts, offset, &Ints, arena))
+    Some(read_counted::<Brand>(alloc, parts, offset, arena, Blank::new(1)))
+}
+
+fn read_counted<L: Ledger>(
+    alloc: Global,
+    parts: &Parts<'_>,
+    offset: u64,
+    arena: &mut Arena,
+    blank: Blank,
+) -> Result<DeclNode, ReadFault>
+    requires of_file { IsOfFile parts.now }
+    requires inside { offset < parts.now.body_len }
+    requires name { blank.name ≡ L.name }
+    requires parts { blank.parts ≡ L.parts }
+    requires some { 0 < blank.parts }
+{
+    let mut steps = Steps::<L>::start(blank);
+    read_decl(alloc, parts, offset, &Ints, arena, &mut steps)
 }
 
 fn fault_at(alloc: Global, parts: &Parts<'_>, offset: u64) -> Option<ByteFault>

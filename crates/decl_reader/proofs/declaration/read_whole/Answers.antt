@@ -1,10 +1,13 @@
-use Rattle.std.proofs.Common.{sym, ◌∙◌, ap}
+use Rattle.std.proofs.Common.{◌≡◌, ◌+◌, ◌-◌, sym, ◌∙◌, ap, refl, arith}
 use Rattle.std.proofs.lemmas.Result.{err_from_is_err_and}
+use Rattle.wire_bytes.specs.Reading.{place}
+use Rattle.decl_spelling.specs.Declarations.{Read}
 use Rattle.decl_reader.specs.Blocks.{table_of}
 use Rattle.decl_reader.specs.Calls.{source_of, ahead_of}
-use Rattle.decl_reader.specs.Forms.{head_shape}
+use Rattle.decl_reader.specs.Forms.{head_shape, decl_form}
 use Rattle.decl_reader.proofs.Beginnings.{body_length}
-use Rattle.decl_reader.proofs.Wholes.{first_is, first_faults, rest_faults, kept_is, fault_as}
+use Rattle.decl_reader.proofs.Counted.{counts_first, counts_twice, counts_most, if_either, lies_in, reached_is, reached_most, counts_reached}
+use Rattle.decl_reader.proofs.Wholes.{first_is, whole_read, first_faults, rest_faults, kept_is, fault_as}
 use Rattle.decl_reader.proofs.declaration.read_whole.Goals as goal
 
 pub returns-in_err-head-clause-exact : goal.returns-in_err-head-clause-exact
@@ -30,3 +33,81 @@ returns-clause-exact g c =
     let same = first_is src basics c.args.offset (ahead_of c.new-block.result) _ _ c.new-block.ensures (body_length c.args.parts.now c.requires.of_file) (ap (table_of c.args.arena.now.nodes) c.new-table.ensures) in
     kept_is src basics c.args.offset (head_shape c.in_ok-head.head) _ _ _ c.add_declaration.new.arena.nodes c.add_declaration.result (sym same ∙ c.in_ok-head.ensures.exact) c.in_ok-whole.ensures.exact
     c.add_declaration.ensures.denotes c.add_declaration.ensures.only_memory
+
+pub returns-in_err-head-clause-at_most : goal.returns-in_err-head-clause-at_most
+returns-in_err-head-clause-at_most g c =
+    let size = body_length c.args.parts.now c.requires.of_file in
+    let counts = counts_first c.args.steps.now c.read_head_types.new.steps c.new-table.result.blocks.entries c.read_head_types.new.table.blocks.entries c.new-table.ensures c.read_head_types.ensures.counted in
+    omega (arith, size, counts_most _ _ c.args.steps.now c.read_head_types.new.steps c.read_head_types.new.table.blocks.entries c.read_head_types.ensures.ready counts)
+
+pub returns-in_err-whole-clause-at_most : goal.returns-in_err-whole-clause-at_most
+returns-in_err-whole-clause-at_most g c =
+    let size = body_length c.args.parts.now c.requires.of_file in
+    let entries = c.read_rest.new.table.blocks.entries in
+    let counts = counts_first c.args.steps.now c.read_rest.new.steps c.new-table.result.blocks.entries entries c.new-table.ensures
+    (counts_twice c.args.steps.now c.read_head_types.new.steps c.read_rest.new.steps c.new-table.result.blocks.entries c.read_head_types.new.table.blocks.entries entries c.read_head_types.ensures.counted c.read_rest.ensures.counted) in
+    omega (arith, size, counts_most _ _ c.args.steps.now c.read_rest.new.steps entries c.read_rest.ensures.ready counts)
+
+pub overflow_sub-end : goal.overflow_sub-end
+overflow_sub-end g c =
+    let p = c.args.parts.now in
+    let src = source_of p in
+    let basics = g.B.Basics.meaning c.args.basics.now in
+    let size = body_length p c.requires.of_file in
+    let same = first_is src basics c.args.offset (ahead_of c.new-block.result) _ _ c.new-block.ensures size (ap (table_of c.args.arena.now.nodes) c.new-table.ensures) in
+    let nodes = c.read_rest.new.arena.nodes in
+    let entries = c.read_rest.new.table.blocks.entries in
+    let x : Read = record { form = decl_form c.in_ok-whole.whole; end = place (ahead_of c.read_rest.new.block).spot; table = table_of nodes entries } in
+    let is = whole_read src basics c.args.offset (head_shape c.in_ok-head.head) _ _ x (sym same ∙ c.in_ok-head.ensures.exact) c.in_ok-whole.ensures.exact in
+    let lies = lies_in src basics c.requires.bytes c.args.offset x is in
+    omega (arith, lies.0, c.place.ensures.place)
+
+pub overflow_sub-end-2 : goal.overflow_sub-end-2
+overflow_sub-end-2 g c =
+    let p = c.args.parts.now in
+    let src = source_of p in
+    let basics = g.B.Basics.meaning c.args.basics.now in
+    let size = body_length p c.requires.of_file in
+    let same = first_is src basics c.args.offset (ahead_of c.new-block.result) _ _ c.new-block.ensures size (ap (table_of c.args.arena.now.nodes) c.new-table.ensures) in
+    let nodes = c.read_rest.new.arena.nodes in
+    let entries = c.read_rest.new.table.blocks.entries in
+    let x : Read = record { form = decl_form c.in_ok-whole.whole; end = place (ahead_of c.read_rest.new.block).spot; table = table_of nodes entries } in
+    let is = whole_read src basics c.args.offset (head_shape c.in_ok-head.head) _ _ x (sym same ∙ c.in_ok-head.ensures.exact) c.in_ok-whole.ensures.exact in
+    let lies = lies_in src basics c.requires.bytes c.args.offset x is in
+    omega (arith, lies.0, c.place.ensures.place)
+
+pub returns-clause-counted : goal.returns-clause-counted
+returns-clause-counted g c =
+    let p = c.args.parts.now in
+    let src = source_of p in
+    let basics = g.B.Basics.meaning c.args.basics.now in
+    let size = body_length p c.requires.of_file in
+    let same = first_is src basics c.args.offset (ahead_of c.new-block.result) _ _ c.new-block.ensures size (ap (table_of c.args.arena.now.nodes) c.new-table.ensures) in
+    let nodes = c.read_rest.new.arena.nodes in
+    let entries = c.read_rest.new.table.blocks.entries in
+    let x : Read = record { form = decl_form c.in_ok-whole.whole; end = place (ahead_of c.read_rest.new.block).spot; table = table_of nodes entries } in
+    let is = whole_read src basics c.args.offset (head_shape c.in_ok-head.head) _ _ x (sym same ∙ c.in_ok-head.ensures.exact) c.in_ok-whole.ensures.exact in
+    let counts = counts_first c.args.steps.now c.read_rest.new.steps c.new-table.result.blocks.entries entries c.new-table.ensures
+    (counts_twice c.args.steps.now c.read_head_types.new.steps c.read_rest.new.steps c.new-table.result.blocks.entries c.read_head_types.new.table.blocks.entries entries c.read_head_types.ensures.counted c.read_rest.ensures.counted) in
+    let more = c.place.result - p.body_at - c.args.offset in
+    let own : more ≡ x.end - (src.body_at + c.args.offset) = omega (arith, c.place.ensures.place) in
+    let risen = reached_is src basics c.requires.bytes c.args.offset x is nodes entries c.args.steps.now c.read_rest.new.steps c.add.new.self more refl counts c.add.ensures own in
+    if_either c.add_declaration.result (counts_reached src basics c.requires.bytes c.args.offset x is c.args.steps.now c.add.new.self risen)
+
+pub returns-clause-at_most : goal.returns-clause-at_most
+returns-clause-at_most g c =
+    let p = c.args.parts.now in
+    let src = source_of p in
+    let basics = g.B.Basics.meaning c.args.basics.now in
+    let size = body_length p c.requires.of_file in
+    let same = first_is src basics c.args.offset (ahead_of c.new-block.result) _ _ c.new-block.ensures size (ap (table_of c.args.arena.now.nodes) c.new-table.ensures) in
+    let nodes = c.read_rest.new.arena.nodes in
+    let entries = c.read_rest.new.table.blocks.entries in
+    let x : Read = record { form = decl_form c.in_ok-whole.whole; end = place (ahead_of c.read_rest.new.block).spot; table = table_of nodes entries } in
+    let is = whole_read src basics c.args.offset (head_shape c.in_ok-head.head) _ _ x (sym same ∙ c.in_ok-head.ensures.exact) c.in_ok-whole.ensures.exact in
+    let counts = counts_first c.args.steps.now c.read_rest.new.steps c.new-table.result.blocks.entries entries c.new-table.ensures
+    (counts_twice c.args.steps.now c.read_head_types.new.steps c.read_rest.new.steps c.new-table.result.blocks.entries c.read_head_types.new.table.blocks.entries entries c.read_head_types.ensures.counted c.read_rest.ensures.counted) in
+    let more = c.place.result - p.body_at - c.args.offset in
+    let own : more ≡ x.end - (src.body_at + c.args.offset) = omega (arith, c.place.ensures.place) in
+    let risen = reached_is src basics c.requires.bytes c.args.offset x is nodes entries c.args.steps.now c.read_rest.new.steps c.add.new.self more refl counts c.add.ensures own in
+    omega (arith, size, risen, reached_most src basics c.requires.bytes c.args.offset x is)

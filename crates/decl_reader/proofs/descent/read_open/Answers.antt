@@ -9,53 +9,59 @@ use Rattle.decl_reader.proofs.Running.{Running, none_goes_on, some_opens, some_s
 use Rattle.decl_reader.proofs.descent.read_open.Goals as goal
 
 pub returns-in_err-begin-clause-exact : goal.returns-in_err-begin-clause-exact
-returns-in_err-begin-clause-exact c =
+returns-in_err-begin-clause-exact g c =
     let p = err_from_is_err_and c.from_residual.result c.from_residual.ensures.1 in
     let size = c.len.ensures in
     let less = c.if-current-len.true in
     rw (p.1, p.2) (fault_resolves (source_of c.args.parts.now) c.args.first (table_of c.args.arena.now.nodes c.args.table.now.blocks.entries) c.args.arena.now c.loop-current.arena c.loop-current.table.blocks.entries c.loop-current.current (reverse c.loop-current.holders.items) c.index-named.result.now
-    c.index-named.ensures c.loop-current.invariant (omega (arith, size, less)) c.in_err-begin.field-0.0 _ c.in_err-begin.ensures)
+    c.index-named.ensures c.loop-current.invariant.0 (omega (arith, size, less)) c.in_err-begin.field-0.0 _ c.in_err-begin.ensures)
 
 pub returns-in_err-begin-clause-full : goal.returns-in_err-begin-clause-full
-returns-in_err-begin-clause-full c full =
+returns-in_err-begin-clause-full g c full =
     let p = err_from_is_err_and c.from_residual.result c.from_residual.ensures.1 in
     absurd (never_full (source_of c.args.parts.now) (table_of c.loop-current.arena.nodes c.loop-current.table.blocks.entries) c.loop-current.table.blocks.entries c.loop-current.current.start c.index-named.result.now c.in_err-begin.field-0.0 c.in_err-begin.ensures (sym p.2 ∙ full_is c.from_residual.result p.0 p.1 full))
 
 pub loop-current-smaller-in-None : goal.loop-current-smaller-in-None
-loop-current-smaller-in-None c =
+loop-current-smaller-in-None g c =
     let size = c.len.ensures in
     let less = c.if-current-len.true in
     known_smaller _ c.loop-current.current (reverse c.loop-current.holders.items) (omega (arith, size, less))
 
 pub loop-current-preserved-in-None : goal.loop-current-preserved-in-None
-loop-current-preserved-in-None c =
+loop-current-preserved-in-None g c =
     let size = c.len.ensures in
-    let less = c.if-current-len.true in
-    none_goes_on (source_of c.args.parts.now) c.args.first (table_of c.args.arena.now.nodes c.args.table.now.blocks.entries) c.args.arena.now c.loop-current.arena c.loop-current.table.blocks.entries c.loop-current.current (reverse c.loop-current.holders.items) c.index-named.result.now
-    c.index-named.ensures c.loop-current.invariant (omega (arith, size, less)) c.in_ok-begin.field-0 c.in-None.is c.in_ok-begin.ensures
+    let less = c.if-current-len.true in (
+      none_goes_on (source_of c.args.parts.now) c.args.first (table_of c.args.arena.now.nodes c.args.table.now.blocks.entries) c.args.arena.now c.loop-current.arena c.loop-current.table.blocks.entries c.loop-current.current (reverse c.loop-current.holders.items) c.index-named.result.now
+          c.index-named.ensures c.loop-current.invariant.0 (omega (arith, size, less)) c.in_ok-begin.field-0 c.in-None.is c.in_ok-begin.ensures,
+      c.loop-current.invariant.1,
+    )
 
 pub loop-current-smaller-in-Some : goal.loop-current-smaller-in-Some
-loop-current-smaller-in-Some c =
+loop-current-smaller-in-Some g c =
     let size = c.len.ensures in
     let less = c.if-current-len.true in
     some_smaller (source_of c.args.parts.now) c.args.first (table_of c.args.arena.now.nodes c.args.table.now.blocks.entries) c.args.arena.now c.loop-current.arena c.loop-current.table.blocks.entries c.loop-current.current (reverse c.loop-current.holders.items) c.index-named.result.now
-    c.index-named.ensures c.loop-current.invariant (omega (arith, size, less)) c.in_ok-begin.field-0 c.in-Some.inner c.push.new.self.items c.in-Some.is c.in_ok-begin.ensures
+    c.index-named.ensures c.loop-current.invariant.0 (omega (arith, size, less)) c.in_ok-begin.field-0 c.in-Some.inner c.push.new.self.items c.in-Some.is c.in_ok-begin.ensures
     (c.in_ok-push-in-Some.ensures.items ∙ ap (λ (os : List Open). os ++ c.loop-current.current ∷ []) (sym (reverse-reverse c.loop-current.holders.items)))
 
 pub loop-current-preserved-in-Some : goal.loop-current-preserved-in-Some
-loop-current-preserved-in-Some c =
+loop-current-preserved-in-Some g c =
     let size = c.len.ensures in
-    let less = c.if-current-len.true in
-    some_opens (source_of c.args.parts.now) c.args.first (table_of c.args.arena.now.nodes c.args.table.now.blocks.entries) c.args.arena.now c.loop-current.arena c.loop-current.table.blocks.entries c.loop-current.current (reverse c.loop-current.holders.items) c.index-named.result.now
-    c.index-named.ensures c.loop-current.invariant (omega (arith, size, less)) c.in_ok-begin.field-0 c.in-Some.inner c.push.new.self.items c.in-Some.is c.in_ok-begin.ensures
-    (c.in_ok-push-in-Some.ensures.items ∙ ap (λ (os : List Open). os ++ c.loop-current.current ∷ []) (sym (reverse-reverse c.loop-current.holders.items)))
+    let less = c.if-current-len.true in (
+      some_opens (source_of c.args.parts.now) c.args.first (table_of c.args.arena.now.nodes c.args.table.now.blocks.entries) c.args.arena.now c.loop-current.arena c.loop-current.table.blocks.entries c.loop-current.current (reverse c.loop-current.holders.items) c.index-named.result.now
+          c.index-named.ensures c.loop-current.invariant.0 (omega (arith, size, less)) c.in_ok-begin.field-0 c.in-Some.inner c.push.new.self.items c.in-Some.is c.in_ok-begin.ensures
+          (c.in_ok-push-in-Some.ensures.items ∙ ap (λ (os : List Open). os ++ c.loop-current.current ∷ []) (sym (reverse-reverse c.loop-current.holders.items))),
+      c.loop-current.invariant.1,
+    )
 
 pub loop-current-preserved : goal.loop-current-preserved
-loop-current-preserved c =
+loop-current-preserved g c =
     let size = c.len.ensures in
     let more = c.if-current-len.false in
-    let some = c.loop-current.invariant.is_open.some in
+    let some = c.loop-current.invariant.0.is_open.some in
     let popped : reverse c.loop-current.holders.items ≡ c.in-Some-pop.holder ∷ reverse c.pop.new.self.items = ap reverse c.in-Some-pop.ensures.items ∙ last_first c.pop.new.self.items c.in-Some-pop.holder in
-    let running = subst (λ (os : List Open). Running (source_of c.args.parts.now) c.args.first (table_of c.args.arena.now.nodes c.args.table.now.blocks.entries) c.args.arena.now c.loop-current.arena c.loop-current.table.blocks.entries c.loop-current.current os) popped c.loop-current.invariant in
-    returns_to (source_of c.args.parts.now) c.args.first (table_of c.args.arena.now.nodes c.args.table.now.blocks.entries) c.args.arena.now c.loop-current.arena c.close.new.arena c.loop-current.table.blocks.entries c.close.new.table.blocks.entries c.loop-current.current
-    c.close.ensures.extends c.in_ok-close.ensures.ready c.in-Some-pop.holder (reverse c.pop.new.self.items) running (omega (arith, size, more, some)) c.in_ok-close.ensures.exact c.in_ok-close.ensures.closed
+    let running = subst (λ (os : List Open). Running (source_of c.args.parts.now) c.args.first (table_of c.args.arena.now.nodes c.args.table.now.blocks.entries) c.args.arena.now c.loop-current.arena c.loop-current.table.blocks.entries c.loop-current.current os) popped c.loop-current.invariant.0 in (
+      returns_to (source_of c.args.parts.now) c.args.first (table_of c.args.arena.now.nodes c.args.table.now.blocks.entries) c.args.arena.now c.loop-current.arena c.close.new.arena c.loop-current.table.blocks.entries c.close.new.table.blocks.entries c.loop-current.current
+          c.close.ensures.extends c.close.ensures.ready c.in-Some-pop.holder (reverse c.pop.new.self.items) running (omega (arith, size, more, some)) c.in_ok-close.ensures.exact c.in_ok-close.ensures.closed,
+      omega (arith, c.loop-current.invariant.1, c.close.ensures.counted),
+    )

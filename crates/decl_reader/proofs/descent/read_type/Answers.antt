@@ -7,7 +7,7 @@ use Rattle.decl_reader.proofs.Running.{begun_is, resolves_as}
 use Rattle.decl_reader.proofs.descent.read_type.Goals as goal
 
 pub returns-in-Some-clause-exact : goal.returns-in-Some-clause-exact
-returns-in-Some-clause-exact c =
+returns-in-Some-clause-exact g c =
     let src = source_of c.args.parts.now in
     let done = table_of c.args.arena.now.nodes c.args.table.now.blocks.entries in
     let begun = subst (λ (a : Option Open). Begins src done c.args.table.now.blocks.entries c.args.holder c.args.named (Ok a)) c.in-Some.is c.in_ok-first.ensures in

@@ -10,7 +10,7 @@ use Rattle.decl_reader.proofs.Wholes.{types_same}
 use Rattle.decl_reader.proofs.declaration.parts.know_types.Goals as goal
 
 pub returns-in_err-read_types-clause-exact : goal.returns-in_err-read_types-clause-exact
-returns-in_err-read_types-clause-exact c =
+returns-in_err-read_types-clause-exact g c =
     let src = source_of c.args.parts.now in
     let done = table_of c.args.arena.now.nodes c.args.table.now.blocks.entries in
     let within : c.args.offset ≤ c.args.parts.now.body_len = c.requires.within in
@@ -20,7 +20,7 @@ returns-in_err-read_types-clause-exact c =
     rw (p.1, p.2) (resolves_as (Err c.in_err-read_types.field-0.0) (table_of c.read_types.new.arena.nodes c.read_types.new.table.blocks.entries) _ _ same c.in_err-read_types.ensures.exact)
 
 pub returns-clause-exact : goal.returns-clause-exact
-returns-clause-exact c =
+returns-clause-exact g c =
     let src = source_of c.args.parts.now in
     let done = table_of c.args.arena.now.nodes c.args.table.now.blocks.entries in
     let within : c.args.offset ≤ c.args.parts.now.body_len = c.requires.within in
