@@ -13,3 +13,4 @@ pub mod Extended
 pub mod Generic
 pub mod Wholes
 pub mod Counted
+pub mod Proper

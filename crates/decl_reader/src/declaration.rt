@@ -4,7 +4,7 @@ ghost use Rattle.std.specs.Prelude.{◌≡◌, ◌+◌, ◌<◌, ◌≤◌, List
 ghost use Rattle.position_codec.specs.FileParts.{IsOfFile, body_of};
 ghost use Rattle.type_terms.specs.Arenas.{AllBelow, Extends};
 ghost use Rattle.type_terms.specs.Declarations.{decl_nodes};
-ghost use Rattle.type_terms.specs.Environments.{decl_of};
+ghost use Rattle.type_terms.specs.Environments.{IsProperDecl, decl_of};
 ghost use Rattle.decl_spelling.specs.Source.{HoldsBytes, window};
 ghost use Rattle.decl_spelling.specs.Reading.{start};
 ghost use Rattle.decl_spelling.specs.Declarations.{head_at, resolved, after_head, read_at, decl_at, FirstFault};
@@ -38,7 +38,7 @@ use type_terms::{Arena, DeclNode};
 /// Reads the declaration at an offset of the data section of a full file or a bundle, or answers the first fault in reading order.
 /// A declaration is read from left to right; a descriptor is read where it is first named, once, and stands wholly before the block
 /// that names it. docs/FORMAT.md has the rules, "Declarations". The nodes of its types are added to the arena, also where a fault is
-/// met behind them. `Nodes` comes only where the arena is full.
+/// met behind them. `Nodes` comes only where the arena is full. What is read keeps the rules of declarations of environments.
 ///
 /// One step is one byte of the data section read: those of each descriptor that it reaches, once, and its own. It takes time near
 /// linear in them, and memory by the descriptors.
@@ -54,6 +54,7 @@ pub fn read_decl<B: Basics, L: Ledger>(
     requires inside { offset < parts.now.body_len }
     ensures found { IfOk result (λ node. SpellsDecl (source_of parts.now) (B.meaning basics.now) offset (decl_of arena.new.nodes node)) }
     ensures fault { IfFault result (FirstFault (source_of parts.now) (B.meaning basics.now) offset) }
+    ensures proper { IfOk result (λ node. IsProperDecl (decl_of arena.new.nodes node)) }
     ensures exact { ReadsDecl result arena.new.nodes (decl_at (source_of parts.now) (B.meaning basics.now) offset) }
     ensures counted { IfOk result (λ _. IfOk (read_at (source_of parts.now) (B.meaning basics.now) offset) (λ read. steps.new ≡ steps.old + reached (source_of parts.now) offset read)) }
     ensures at_most { steps.new ≤ steps.old + parts.now.body_len }
