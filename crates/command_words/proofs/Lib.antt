@@ -1,3 +1,4 @@
+pub mod Named
 pub mod OneReading
 pub mod Spelled
 pub mod Wrong

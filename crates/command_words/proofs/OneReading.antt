@@ -1,36 +1,62 @@
 -- Words have one reading.
-use Rattle.std.proofs.Common.{◌≤◌, ◌≡◌, ℕ, ◌+◌, ◌<◌, inl, inr, suc, List, [], ◌∷◌, ◌++◌, length, take, drop, refl, ap, arith}
+use Rattle.std.proofs.Common.{◌≤◌, ◌≡◌, ℕ, ◌+◌, ◌<◌, inl, inr, suc, List, [], ◌∷◌, ◌++◌, length, take, drop, map, refl, ap, arith}
+use Rattle.std.specs.List.{AllByRecursion}
 use Rattle.std.proofs.lemmas.Bool.{cases_lt, cases_order}
 use Rattle.std.proofs.lemmas.List.{take-append-drop}
-use Rattle.command_words.specs.Texts.{Word, Source, source_word, Lacks, IsSource}
-use Rattle.command_words.specs.Forms.{Request, list, IsForm, Begins, IsWrongWord, IsFirstWrong}
+use Rattle.command_words.specs.Texts.{Word, Source, source_word, Lacks, IsSource, Name, name_word, IsName}
+use Rattle.command_words.specs.Forms.{Request, list, show, IsForm, Begins, IsWrongWord, IsFirstWrong}
 
--- a path ends at the first `=`, so it is the one that stands there
-one_split : (a b x y : List ℕ) → Lacks 61 a → Lacks 61 b → a ++ 61 ∷ x ≡ b ++ 61 ∷ y → (a ≡ b) × (x ≡ y)
-one_split [] [] x y la lb e = (refl, cc)
-one_split [] (c ∷ b) x y la lb e = absurd (lb 0 (omega arith) (cc))
-one_split (c ∷ a) [] x y la lb e = absurd (la 0 (omega arith) (cc))
-one_split (c ∷ a) (d ∷ b) x y la lb e =
-    let tails : a ++ 61 ∷ x ≡ b ++ 61 ∷ y = cc in
+-- a path ends at the first sign that no path has, so it is the one that stands there
+one_split : (sign : ℕ) (a b x y : List ℕ) → Lacks sign a → Lacks sign b → a ++ sign ∷ x ≡ b ++ sign ∷ y → (a ≡ b) × (x ≡ y)
+one_split sign [] [] x y la lb e = (refl, cc)
+one_split sign [] (c ∷ b) x y la lb e = absurd (lb 0 (omega arith) (cc))
+one_split sign (c ∷ a) [] x y la lb e = absurd (la 0 (omega arith) (cc))
+one_split sign (c ∷ a) (d ∷ b) x y la lb e =
+    let tails : a ++ sign ∷ x ≡ b ++ sign ∷ y = cc in
     let heads : c ≡ d = cc in
-    let more = one_split a b x y (λ k h. la (suc k) (omega arith)) (λ k h. lb (suc k) (omega arith)) tails in
+    let more = one_split sign a b x y (λ k h. la (suc k) (omega arith)) (λ k h. lb (suc k) (omega arith)) tails in
     let front : a ≡ b = more.0 in
     (cc, more.1)
 
 one_source : (a b : Source) → IsSource a → IsSource b → source_word a ≡ source_word b → a ≡ b
 one_source a b sa sb e =
     let rest : a.path ++ 61 ∷ a.file ≡ b.path ++ 61 ∷ b.file = cc in
-    let parts = one_split a.path b.path a.file b.file sa.path.no_equals sb.path.no_equals rest in
+    let parts = one_split 61 a.path b.path a.file b.file sa.path.no_equals sb.path.no_equals rest in
     λ i. record { path = parts.0 i; file = parts.1 i }
+
+one_name : (a b : Name) → IsName a → IsName b → name_word a ≡ name_word b → a ≡ b
+one_name a b sa sb e =
+    let parts = one_split 58 a.path b.path a.name b.name sa.path.no_colon sb.path.no_colon e in
+    λ i. record { path = parts.0 i; name = parts.1 i }
+
+one_list : (xs ys : List Name) → AllByRecursion IsName xs → AllByRecursion IsName ys → map name_word xs ≡ map name_word ys → xs ≡ ys
+one_list [] [] sx sy e = refl
+one_list [] (y ∷ ys) sx sy e = cc
+one_list (x ∷ xs) [] sx sy e = cc
+one_list (x ∷ xs) (y ∷ ys) sx sy e =
+    let heads : name_word x ≡ name_word y = cc in
+    let tails : map name_word xs ≡ map name_word ys = cc in
+    let first = one_name x y sx.0 sy.0 heads in
+    let others = one_list xs ys sx.1 sy.1 tails in
+    λ i. first i ∷ others i
 
 pub one_request : (words : List Word) (a b : Request) → IsForm words a → IsForm words b → a ≡ b
 one_request words (list a) (list b) fa fb =
     let ea = fa.0 in let eb = fb.0 in
     let same : source_word a ≡ source_word b = cc in
     ap list (one_source a b fa.1 fb.1 same)
+one_request words (list a) (show b ys) fa fb = let ea = fa.0 in let eb = fb.0 in cc
+one_request words (show a xs) (list b) fa fb = let ea = fa.0 in let eb = fb.0 in cc
+one_request words (show a xs) (show b ys) fa fb =
+    let ea = fa.0 in let eb = fb.0 in
+    let same : source_word a ≡ source_word b = cc in
+    let alike : map name_word xs ≡ map name_word ys = cc in
+    let source = one_source a b fa.1 fb.1 same in
+    let names = one_list xs ys fa.2 fb.2 alike in
+    λ i. show (source i) (names i)
 
 -- a form begins with each front of it
-begun : (words : List Word) (k : ℕ) (request : Request) → IsForm words request → Begins (take k words)
+pub begun : (words : List Word) (k : ℕ) (request : Request) → IsForm words request → Begins (take k words)
 begun words k request form = (drop k words, request, rw (take-append-drop k words) form)
 
 pub apart : (words : List Word) (k : ℕ) (request : Request) → IsWrongWord words k → IsForm words request → ⊥

@@ -1,5 +1,6 @@
 -- What the words of the command line spell.
-use Rattle.std.specs.Prelude.{◌≢◌, ℕ, List, [], ◌++◌, codes, slice_index, EachIndex}
+use Rattle.std.specs.Prelude.{◌≡◌, ◌≢◌, ℕ, ◌==◌, List, [], ◌++◌, take, codes, slice_index, slice_get, EachIndex, Some}
+use Rattle.std.specs.List.{All, before_first, after_first}
 
 -- a word, as its bytes
 abbrev pub Word : Type 0
@@ -34,3 +35,33 @@ source_word source = codes "f:" ++ (source.path ++ (codes "=" ++ source.file))
 pub record IsSource (source : Source) : Type 0 where
   pub path : IsPath source.path
   pub file : IsFile source.file
+
+-- a name, and the path of its package
+pub record Name : Type 0 where
+  pub path : List ℕ
+  pub name : List ℕ
+
+-- the word `PATH:NAME` of a name
+abbrev pub name_word : Name → Word
+name_word name = name.path ++ (codes ":" ++ name.name)
+
+-- a path and a name that isn't empty
+pub record IsName (name : Name) : Type 0 where
+  pub path : IsPath name.path
+  pub some : name.name ≢ []
+
+-- a word, divided at its first `:`
+abbrev pub divided_name : Word → Name
+divided_name word = record { path = before_first (λ b. b == 58) word; name = after_first (λ b. b == 58) word }
+
+-- the word names a name
+pub record IsNameWord (word : Word) : Type 0 where
+  pub spelled : word ≡ name_word (divided_name word)
+  pub sound : IsName (divided_name word)
+
+-- word k, counted from 0, is the first that names no name
+pub record IsFirstOther (words : List Word) (k : ℕ) : Type 0 where
+  pub word : Word
+  pub there : slice_get words k ≡ Some word
+  pub names : All IsNameWord (take k words)
+  pub other : (name : Name) → IsName name → word ≢ name_word name

@@ -2,6 +2,7 @@ ghost use Rattle.std.specs.Prelude.{◌≡◌, ◌∷◌, codes, map, IfOk, IfEr
 ghost use Rattle.std.specs.String.{string_bytes};
 ghost use Rattle.command_words.specs.Forms.{IsForm, IsWrongWord, IsFirstWrong, IsLabelled, request_of};
 
+use crate::names::NameWords;
 use crate::sources::SourceWord;
 
 /// What the words of a command line ask for.
@@ -9,6 +10,11 @@ use crate::sources::SourceWord;
 pub enum Command<'a> {
     /// To list the names of a source.
     List(SourceWord<'a>),
+    /// To show the declarations of names of a source.
+    Show {
+        source: SourceWord<'a>,
+        names: NameWords<'a>,
+    },
 }
 
 /// The number of the first wrong word, from 1: no form begins with the words up to it. It is one more than the
@@ -29,6 +35,7 @@ pub fn read_command(words: &[String]) -> Result<Command<'_>, WrongWord>
     };
     match name.as_str() {
         "list" => read_list(rest),
+        "show" => read_show(rest),
         _ => Err(WrongWord { number: 1 }),
     }
 }
@@ -61,4 +68,28 @@ fn read_list(rest: &[String]) -> Result<Command<'_>, WrongWord>
         return Err(WrongWord { number: 3 });
     }
     Ok(Command::List(source))
+}
+
+// Reads the words after the name of `show`: one source, `--` and names.
+fn read_show(rest: &[String]) -> Result<Command<'_>, WrongWord>
+    ensures found { IfOk result (λ command. IsForm (codes "show" ∷ map string_bytes rest.now) (request_of command)) }
+    ensures labelled { IfOk result IsLabelled }
+    ensures wrong { IfErr result (λ wrong. IsWrongWord (codes "show" ∷ map string_bytes rest.now) wrong.number) }
+{
+    let [word, after @ ..] = rest else {
+        return Err(WrongWord { number: 2 });
+    };
+    let Some(source) = SourceWord::of(word.as_str()) else {
+        return Err(WrongWord { number: 2 });
+    };
+    let [mark, words @ ..] = after else {
+        return Err(WrongWord { number: 3 });
+    };
+    if mark.as_str() != "--" {
+        return Err(WrongWord { number: 3 });
+    }
+    match NameWords::of(words) {
+        Ok(names) => Ok(Command::Show { source, names }),
+        Err(k) => Err(WrongWord { number: k + 4 }),
+    }
 }
