@@ -90,7 +90,7 @@ fn enter_all(tasks: &mut Vec<Task>, types: &mut Vec<NodeId>) -> Result<(), Alloc
 
 /// Adds the types that stand in a type, in reading order.
 #[tactic(auto, using(crate::proofs::Fused::fields_types, crate::proofs::Fused::terms_types))]
-fn push_children(node: &Node, into: &mut Vec<NodeId>) -> Result<(), AllocError>
+pub fn push_children(node: &Node, into: &mut Vec<NodeId>) -> Result<(), AllocError>
     ensures { OnOk result (into.new.items ≡ into.old.items ++ children node.now) }
 {
     match node {
