@@ -1,14 +1,14 @@
 -- What is written so is read so, unless a path is too long.
-use Rattle.std.proofs.Common.{◌≡◌, ℕ, ◌<◌, ◌≤◌, max, Bool, true, false, List, [], ◌∷◌, Ok, Err, refl, sym, ap, subst, ◌∙◌, arith}
+use Rattle.std.proofs.Common.{◌≡◌, ℕ, ◌<◌, ◌≤◌, ◌-◌, min, max, Bool, true, false, List, [], ◌∷◌, Ok, Err, refl, sym, ap, subst, ◌∙◌, arith}
 use Rattle.go_syntax.specs.declared.symbols.Symbol.{Symbol}
 use Rattle.go_syntax.specs.declared.symbols.Symbol.TheVariants as t
 use Rattle.go_syntax.specs.declared.symbols.Ident.{Ident}
 use Rattle.go_syntax.specs.declared.faults.Fault.TheVariants.{Unexpected, Deep, DotImport, Call}
 use Rattle.go_syntax.specs.declared.tree.NameExpr.{NameExpr}
-use Rattle.go_syntax.specs.Reading.{Reply, ◌>>=◌, past, choose, starts, is_dot, is_comma, row_by, row_item, row, row_end}
+use Rattle.go_syntax.specs.Reading.{Reply, ◌>>=◌, past, choose, starts, is_dot, is_comma, Shape, series_end, series_by, series_item, series, rows, row, chain_end, chain, Fit, start_of, placed}
 use Rattle.go_syntax.specs.Names.{plain, IsTypeName, own, of_package, IsNames, one, more, selected_by, dotted, names_more, names_at}
 use Rattle.go_syntax.proofs.NameReads.{after_ident}
-use Rattle.go_syntax.proofs.Rows.{Eats, row_is}
+use Rattle.go_syntax.proofs.Rows.{Eats, series_is, chain_is}
 
 -- The answer is this one, or a path is too long: the tree's has m nodes, and n are allowed.
 abbrev pub Agrees : {X : Type 0} → ℕ → ℕ → X → List Symbol → Reply X → Type 0
@@ -26,6 +26,22 @@ agrees_bind n m a us i j b rest (Err (Deep k)) q h deeper fits = deeper h
 agrees_bind n m a us i j b rest (Err (Unexpected k)) q h deeper fits = absurd h
 agrees_bind n m a us i j b rest (Err (DotImport k)) q h deeper fits = absurd h
 agrees_bind n m a us i j b rest (Err (Call k at)) q h deeper fits = absurd h
+
+pub agrees_as : {X : Type 0} (n m : ℕ) (x y : X) (rest : List Symbol) (r : Reply X) → x ≡ y → Agrees n m x rest r → Agrees n m y rest r
+agrees_as n m x y rest r e h = subst (λ z. Agrees n m z rest r) e h
+
+pub agrees_from : {X : Type 0} (n m : ℕ) (x : X) (rest : List Symbol) (r s : Reply X) → s ≡ r → Agrees n m x rest r → Agrees n m x rest s
+agrees_from n m x rest r s e h = subst (Agrees n m x rest) (sym e) h
+
+-- a tree of m nodes on a longest path, where n are allowed
+abbrev pub sized : {X : Type 0} → ℕ → ℕ → X → Fit X
+sized n m x = (x, n - m)
+
+abbrev pub fit_at : {X : Type 0} → X → ℕ → Fit X
+fit_at x k = (x, k)
+
+pub placed_again : {X : Type 0} (n m : ℕ) (x : X) (rest ts : List Symbol) (p : List Symbol → Reply X) → Agrees n m x rest (p ts) → Agrees n m (x, start_of ts) rest (placed p ts)
+placed_again n m x rest ts p h = agrees_bind n m x rest n m (x, start_of ts) rest (p ts) (λ z us. Ok ((z, start_of ts), us)) h (λ d. d) (λ f. (refl, refl, f))
 
 -- ---- the next token isn't of a kind
 
@@ -46,24 +62,80 @@ pub names_again : (ts : List Symbol) (names : List Ident) (rest : List Symbol) �
 names_again ts names rest (one i r) e = after_ident i r ∙ choose_other is_comma r (names_more names_at i) (Ok (i ∷ [], r)) e
 names_again ts names rest (more i c us ns r w) e = ap (λ (m : Reply (List Ident)). m >>= λ z. Ok (i ∷ z.0, z.1)) (names_again us ns r w e)
 
--- ---- rows
+-- ---- series
 
-pub row_none : {X : Type 0} (closes : Symbol → Bool) (item : List Symbol → Reply X) → Eats item → (k : Symbol) (rest : List Symbol) (n : ℕ) → closes k ≡ true → Agrees n 0 [] rest (row closes item (k ∷ rest))
-row_none closes item eats_one k rest n e = rw (row_is closes item eats_one (k ∷ rest), e) (refl, refl, omega arith)
+pub series_opens : {X Y : Type 0} (S : Shape X Y) (item : List Symbol → Reply X) (later : List Symbol → Reply Y) (ts : List Symbol) → starts S.closes ts ≡ false → series_by S item later ts ≡ series_item S item later ts
+series_opens S item later [] e = refl
+series_opens S item later (k ∷ ts) e = rw e refl
 
-row_opens : {X : Type 0} (closes : Symbol → Bool) (item : List Symbol → Reply X) (later : List Symbol → Reply (List X)) (ts : List Symbol) → starts closes ts ≡ false → row_by closes item later ts ≡ row_item closes item later ts
-row_opens closes item later [] e = refl
-row_opens closes item later (k ∷ ts) e = rw e refl
+module _ {X Y : Type 0} (S : Shape X Y) where
+  pub end_last : (later : List Symbol → Reply Y) (n m : ℕ) (x : X) (k : Symbol) (rest : List Symbol) → S.closes k ≡ true → m ≤ n → Agrees n m (S.cons x S.nil) rest (series_end S later x (k ∷ rest))
+  end_last later n m x k rest c f = rw c (refl, refl, f)
 
-pub row_last : {X : Type 0} (closes : Symbol → Bool) (item : List Symbol → Reply X) → Eats item → (n m : ℕ) (ts : List Symbol) (x : X) (k : Symbol) (rest : List Symbol) → starts closes ts ≡ false → closes k ≡ true
-    → Agrees n m x (k ∷ rest) (item ts) → Agrees n m (x ∷ []) rest (row closes item ts)
-row_last closes item eats_one n m ts x k rest e c h =
-    rw (row_is closes item eats_one ts, row_opens closes item (row closes item) ts e)
-    (agrees_bind n m x (k ∷ rest) n m (x ∷ []) rest (item ts) (row_end closes (row closes item)) h (λ d. d) (λ f. rw c (refl, refl, f)))
+  pub end_more : (later : List Symbol → Reply Y) (n m j : ℕ) (x : X) (k : Symbol) (us : List Symbol) (ys : Y) (rest : List Symbol) → S.closes k ≡ false → S.sep k ≡ true → S.final x ≡ false → m ≤ n → Agrees n j ys rest (later us)
+      → Agrees n (max m j) (S.cons x ys) rest (series_end S later x (k ∷ us))
+  end_more later n m j x k us ys rest c s l f g =
+      rw (c, s, l) (agrees_bind n j ys rest n (max m j) (S.cons x ys) rest (later us) (λ zs vs. Ok (S.cons x zs, vs)) g (λ d. omega arith) (λ w. (refl, refl, omega arith)))
 
-pub row_more : {X : Type 0} (closes : Symbol → Bool) (item : List Symbol → Reply X) → Eats item → (n m j : ℕ) (ts : List Symbol) (x : X) (s : ℕ) (us : List Symbol) (xs : List X) (rest : List Symbol) → starts closes ts ≡ false → closes (t.Semicolon s) ≡ false
-    → Agrees n m x (t.Semicolon s ∷ us) (item ts) → Agrees n j xs rest (row closes item us) → Agrees n (max m j) (x ∷ xs) rest (row closes item ts)
-row_more closes item eats_one n m j ts x s us xs rest e c h g =
-    rw (row_is closes item eats_one ts, row_opens closes item (row closes item) ts e)
-    (agrees_bind n m x (t.Semicolon s ∷ us) n (max m j) (x ∷ xs) rest (item ts) (row_end closes (row closes item)) h (λ d. omega arith)
-    (λ f. rw c (agrees_bind n j xs rest n (max m j) (x ∷ xs) rest (row closes item us) (λ ys vs. Ok (x ∷ ys, vs)) g (λ d. omega arith) (λ w. (refl, refl, omega arith)))))
+  pub end_final : (later : List Symbol → Reply Y) (n m : ℕ) (x : X) (k c : Symbol) (rest : List Symbol) → S.closes k ≡ false → S.sep k ≡ true → S.final x ≡ true → S.closes c ≡ true → m ≤ n
+      → Agrees n m (S.cons x S.nil) rest (series_end S later x (k ∷ c ∷ rest))
+  end_final later n m x k c rest a s l e f = rw (a, s, l, e) (refl, refl, f)
+
+module _ {X Y : Type 0} (S : Shape X Y) (item : List Symbol → Reply X) (eats_one : Eats item) where
+  pub series_none : (n : ℕ) (k : Symbol) (rest : List Symbol) → S.closes k ≡ true → Agrees n 0 S.nil rest (series S item (k ∷ rest))
+  series_none n k rest e = rw (series_is S item eats_one (k ∷ rest), e) (refl, refl, omega arith)
+
+  pub series_once : (n m : ℕ) (ts : List Symbol) (x : X) (k : Symbol) (rest : List Symbol) → starts S.closes ts ≡ false → S.closes k ≡ true → Agrees n m x (k ∷ rest) (item ts) → Agrees n m (S.cons x S.nil) rest (series S item ts)
+  series_once n m ts x k rest e c h =
+      rw (series_is S item eats_one ts, series_opens S item (series S item) ts e)
+      (agrees_bind n m x (k ∷ rest) n m (S.cons x S.nil) rest (item ts) (series_end S (series S item)) h (λ d. d) (λ f. end_last S (series S item) n m x k rest c f))
+
+  pub series_twice : (n m j : ℕ) (ts : List Symbol) (x : X) (k : Symbol) (us : List Symbol) (ys : Y) (rest : List Symbol) → starts S.closes ts ≡ false → S.closes k ≡ false → S.sep k ≡ true → S.final x ≡ false
+      → Agrees n m x (k ∷ us) (item ts) → Agrees n j ys rest (series S item us) → Agrees n (max m j) (S.cons x ys) rest (series S item ts)
+  series_twice n m j ts x k us ys rest e c s l h g =
+      rw (series_is S item eats_one ts, series_opens S item (series S item) ts e)
+      (agrees_bind n m x (k ∷ us) n (max m j) (S.cons x ys) rest (item ts) (series_end S (series S item)) h (λ d. omega arith) (λ f. end_more S (series S item) n m j x k us ys rest c s l f g))
+
+  pub series_final : (n m : ℕ) (ts : List Symbol) (x : X) (k c : Symbol) (rest : List Symbol) → starts S.closes ts ≡ false → S.closes k ≡ false → S.sep k ≡ true → S.final x ≡ true → S.closes c ≡ true
+      → Agrees n m x (k ∷ c ∷ rest) (item ts) → Agrees n m (S.cons x S.nil) rest (series S item ts)
+  series_final n m ts x k c rest e a s l d h =
+      rw (series_is S item eats_one ts, series_opens S item (series S item) ts e)
+      (agrees_bind n m x (k ∷ c ∷ rest) n m (S.cons x S.nil) rest (item ts) (series_end S (series S item)) h (λ o. o) (λ f. end_final S (series S item) n m x k c rest a s l d f))
+
+module _ {X : Type 0} (closes : Symbol → Bool) (item : List Symbol → Reply X) (eats_one : Eats item) where
+  pub row_none : (k : Symbol) (rest : List Symbol) (n : ℕ) → closes k ≡ true → Agrees n 0 [] rest (row closes item (k ∷ rest))
+  row_none k rest n e = series_none (rows closes) item eats_one n k rest e
+
+  pub row_last : (n m : ℕ) (ts : List Symbol) (x : X) (k : Symbol) (rest : List Symbol) → starts closes ts ≡ false → closes k ≡ true → Agrees n m x (k ∷ rest) (item ts) → Agrees n m (x ∷ []) rest (row closes item ts)
+  row_last n m ts x k rest e c h = series_once (rows closes) item eats_one n m ts x k rest e c h
+
+  pub row_more : (n m j : ℕ) (ts : List Symbol) (x : X) (s : ℕ) (us : List Symbol) (xs : List X) (rest : List Symbol) → starts closes ts ≡ false → closes (t.Semicolon s) ≡ false
+      → Agrees n m x (t.Semicolon s ∷ us) (item ts) → Agrees n j xs rest (row closes item us) → Agrees n (max m j) (x ∷ xs) rest (row closes item ts)
+  row_more n m j ts x s us xs rest e c h g = series_twice (rows closes) item eats_one n m j ts x (t.Semicolon s) us xs rest e c refl refl h g
+
+-- ---- series of trees
+
+pub less_none : {Y : Type 0} (n : ℕ) → fit_at {X = List Y} [] n ≡ sized n 0 []
+less_none n = ap (fit_at []) (omega arith)
+
+pub less_last : {Y : Type 0} (n m k : ℕ) (y : Y) → k ≡ n - m → fit_at (y ∷ []) (min k n) ≡ sized n m (y ∷ [])
+less_last n m k y e = let o : min k n ≡ n - m = omega (arith, e) in ap (fit_at (y ∷ [])) o
+
+pub less_more : {Y : Type 0} (n m j k : ℕ) (y : Y) (ys : List Y) → k ≡ n - m → fit_at (y ∷ ys) (min k (n - j)) ≡ sized n (max m j) (y ∷ ys)
+less_more n m j k y ys e = let o : min k (n - j) ≡ n - max m j = omega (arith, e) in ap (fit_at (y ∷ ys)) o
+
+-- ---- chains
+
+module _ {X Y : Type 0} (sep : Symbol → Bool) (single : X → Y) (cons : X → Y → Y) (item : List Symbol → Reply X) (eats_one : Eats item) where
+  pub chain_once : (n m : ℕ) (ts : List Symbol) (x : X) (rest : List Symbol) → starts sep rest ≡ false → Agrees n m x rest (item ts) → Agrees n m (single x) rest (chain sep single cons item ts)
+  chain_once n m ts x rest e h =
+      rw (chain_is sep single cons item eats_one ts)
+      (agrees_bind n m x rest n m (single x) rest (item ts) (chain_end sep single cons (chain sep single cons item)) h (λ d. d)
+      (λ f. agrees_from n m (single x) rest (Ok (single x, rest)) (chain_end sep single cons (chain sep single cons item) x rest) (choose_other sep rest _ _ e) (refl, refl, f)))
+
+  pub chain_twice : (n m j : ℕ) (ts : List Symbol) (x : X) (k : Symbol) (us : List Symbol) (ys : Y) (rest : List Symbol) → sep k ≡ true → Agrees n m x (k ∷ us) (item ts) → Agrees n j ys rest (chain sep single cons item us)
+      → Agrees n (max m j) (cons x ys) rest (chain sep single cons item ts)
+  chain_twice n m j ts x k us ys rest s h g =
+      rw (chain_is sep single cons item eats_one ts)
+      (agrees_bind n m x (k ∷ us) n (max m j) (cons x ys) rest (item ts) (chain_end sep single cons (chain sep single cons item)) h (λ d. omega arith)
+      (λ f. rw s (agrees_bind n j ys rest n (max m j) (cons x ys) rest (chain sep single cons item us) (λ zs vs. Ok (cons x zs, vs)) g (λ d. omega arith) (λ w. (refl, refl, omega arith)))))

@@ -6,18 +6,19 @@ use Rattle.go_syntax.specs.declared.symbols.Ident.{Ident}
 use Rattle.go_syntax.specs.declared.constants.Written.{Written}
 use Rattle.go_syntax.specs.declared.tree.Expr.{Expr}
 use Rattle.go_syntax.specs.declared.tree.TypeExpr.{TypeExpr}
-use Rattle.go_syntax.specs.Reading.{peek, starts, is_comma, is_assign, is_open_paren, is_close_paren}
+use Rattle.go_syntax.specs.Reading.{peek, starts, begins_type, is_comma, is_assign, is_open_paren, is_close_paren}
 use Rattle.go_syntax.specs.Names as names_of
 use Rattle.go_syntax.specs.Names.{IsNames}
 use Rattle.go_syntax.specs.Operands.{expr_at}
 use Rattle.go_syntax.specs.Grammar.{IsType}
-use Rattle.go_syntax.specs.Types.{begins_type, type_at}
+use Rattle.go_syntax.specs.Types.{type_at}
 use Rattle.go_syntax.specs.Constants as c
 use Rattle.go_syntax.specs.Constants.{written, IsExprs, IsConstSpec, exprs_more, exprs_end, exprs_step, exprs_at, const_values, const_assign, const_typed, const_empty, const_rest, const_more, const_spec_at}
 use Rattle.go_syntax.proofs.Steps.{steps_is}
-use Rattle.go_syntax.proofs.Agreeing.{Agrees, agrees_bind, choose_other, names_again}
+use Rattle.go_syntax.proofs.Agreeing.{Agrees, agrees_bind, sized, choose_other, names_again}
 use Rattle.go_syntax.proofs.ExprAgain.{continues, next_level, Closed, expr_again}
-use Rattle.go_syntax.proofs.TypeAgain.{next_so, type_no_comma, type_begins, type_again}
+use Rattle.go_syntax.proofs.Follows.{next_so, no_comma, type_begins}
+use Rattle.go_syntax.proofs.TypeAgain.{type_again}
 use Rattle.go_syntax.proofs.ConstReads.{exprs_local}
 
 -- ---- what comes next
@@ -105,7 +106,7 @@ typed_is n names us b =
 typed_again : (n m j a : ℕ) (i : Ident) (names : List Ident) (us : List Symbol) (ty : TypeExpr) (vs : List Symbol) (xs : List Expr) (rest : List Symbol) → IsType m us ty (t.Assign a ∷ vs) → IsExprs j vs xs rest → Ended rest
     → Agrees n (max m j) (written (i ∷ names) (Some ty) xs) rest (const_typed n (i ∷ names) us)
 typed_again n m j a i names us ty vs xs rest w v e =
-    agrees_bind n m ty (t.Assign a ∷ vs) n (max m j) (written (i ∷ names) (Some ty) xs) rest (type_at n us) (const_assign n (i ∷ names)) (type_again m us ty (t.Assign a ∷ vs) w refl n) (λ d. omega arith)
+    agrees_bind n m (sized n m ty) (t.Assign a ∷ vs) n (max m j) (written (i ∷ names) (Some ty) xs) rest (type_at n us) (λ z ws. const_assign n (i ∷ names) z.0 ws) (type_again m us ty (t.Assign a ∷ vs) w refl n) (λ d. omega arith)
     (λ f. agrees_bind n j xs rest n (max m j) (written (i ∷ names) (Some ty) xs) rest (exprs_at n vs) (λ zs ws. Ok (written (i ∷ names) (Some ty) zs, ws)) (exprs_again n j vs xs rest v e) (λ d. omega arith) (λ q. (refl, refl, omega arith)))
 
 pub const_again : (n m : ℕ) (ts : List Symbol) (x : Written) (rest : List Symbol) → IsConstSpec m ts x rest → Ended rest → Agrees n m x rest (const_spec_at n ts)
@@ -113,7 +114,7 @@ const_again n m ts x rest (c.as_before us i names r a) e = rw (named_is n i name
 const_again n m ts x rest (c.untyped j a us i names vs xs r b v) e = rw (named_is n i names us (t.Assign a ∷ vs) b refl) (values_again n j i names None vs xs r v e)
 const_again n m ts x rest (c.typed j k a us i names vs ty ws xs r b w v) e =
     let begins = type_begins j vs ty (t.Assign a ∷ ws) w in
-    rw (named_is n i names us vs b (next_so begins_type is_comma true false vs type_no_comma (λ h. refl) begins), typed_is n (i ∷ names) vs begins) (typed_again n j k a i names vs ty ws xs r w v e)
+    rw (named_is n i names us vs b (no_comma vs begins), typed_is n (i ∷ names) vs begins) (typed_again n j k a i names vs ty ws xs r w v e)
 
 names_not_open : (ts : List Symbol) (names : List Ident) (rest : List Symbol) → IsNames ts names rest → starts is_open_paren ts ≡ false
 names_not_open ts names rest (names_of.one i r) = refl

@@ -5,22 +5,23 @@ use Rattle.go_syntax.specs.declared.symbols.Symbol.TheVariants as t
 use Rattle.go_syntax.specs.declared.symbols.Ident.{Ident}
 use Rattle.go_syntax.specs.declared.constants.Written.{Written}
 use Rattle.go_syntax.specs.declared.tree.Expr.{Expr}
-use Rattle.go_syntax.specs.Reading.{Reply, ◌>>=◌, peek, is_comma, is_assign}
+use Rattle.go_syntax.specs.Reading.{Reply, ◌>>=◌, peek, begins_type, is_comma, is_assign}
 use Rattle.go_syntax.specs.Names.{plain, IsNames, one, more, ident_at, names_at}
 use Rattle.go_syntax.specs.Expressions.{constant}
 use Rattle.go_syntax.specs.Operands.{expr_at}
-use Rattle.go_syntax.specs.Types.{begins_type, type_at}
+use Rattle.go_syntax.specs.Types.{type_at}
 use Rattle.go_syntax.specs.Constants as c
 use Rattle.go_syntax.specs.Constants.{written, IsExprs, IsConstSpec, exprs_more, exprs_end, exprs_step, exprs_at, const_values, const_assign, const_typed, const_empty, const_rest, const_more, const_first, const_spec_at}
 use Rattle.go_syntax.proofs.Viable.{ReadsAt, Behind, Past, After, done_reads, like_reads, as_reads, past_reads, choose_reads_on, choose_reads, peek_reads, bind_reads, value_reads}
 use Rattle.go_syntax.proofs.Marks.{comma, assign}
-use Rattle.go_syntax.proofs.NameReads.{IsIdent, any_ident, ident_reads, names_reads, no_names}
+use Rattle.go_syntax.proofs.NameReads.{IsIdent, any_ident, ident_reads, names_reads, no_names, through_value}
 use Rattle.go_syntax.proofs.OperandReads.{ExprAt, alone_up}
 use Rattle.go_syntax.proofs.ExprReads.{expr_reads}
-use Rattle.go_syntax.proofs.FieldReads.{TypeAt, through_value}
+use Rattle.go_syntax.proofs.Standing.{TypeAt}
 use Rattle.go_syntax.proofs.TypeReads.{type_reads}
 use Rattle.go_syntax.proofs.Rows.{Eats, eats_of, bind_same, choose_same}
-use Rattle.go_syntax.proofs.Steps.{Local, steps_read, Any, no_longer}
+use Rattle.go_syntax.proofs.Steps.{Local, steps_read}
+use Rattle.go_syntax.proofs.Groups.{Any, no_longer}
 
 -- ---- lists of expressions
 
@@ -64,20 +65,20 @@ Rest i names = After IsNames ConstAt (i ∷ names)
 
 typed_reads : (n : ℕ) (i : Ident) (names : List Ident) (ts : List Symbol) → ReadsAt (Rest i names) (const_typed n (i ∷ names)) ts (const_typed n (i ∷ names) ts)
 typed_reads n i names ts =
-    bind_reads TypeAt (Rest i names) (type_at n) (const_assign n (i ∷ names)) ts
+    bind_reads TypeAt (Rest i names) (type_at n) (λ ty us. const_assign n (i ∷ names) ty.0 us) ts
     (λ ty. record {
       tokens = t.Assign 0 ∷ t.Ident any_ident ∷ [];
-      made = written (i ∷ names) (Some ty) any_values;
-      stands = λ tail us w vs v. (max w.0 1, c.typed w.0 1 0 vs i names us ty (t.Ident any_ident ∷ tail) any_values tail v w.1 (one_value tail));
+      made = written (i ∷ names) (Some ty.0) any_values;
+      stands = λ tail us w vs v. (max w.0 1, c.typed w.0 1 0 vs i names us ty.0 (t.Ident any_ident ∷ tail) any_values tail v w.1 (one_value tail));
     })
-    (λ ty us o. past_reads is_assign (After TypeAt (Rest i names) ty) assign (const_values n (i ∷ names) (Some ty)) us
+    (λ ty us o. past_reads is_assign (After TypeAt (Rest i names) ty) assign (const_values n (i ∷ names) (Some ty.0)) us
     (record {
       tokens = t.Ident any_ident ∷ [];
-      made = written (i ∷ names) (Some ty) any_values;
-      stands = λ tail a vs w ws v. (max w.0 1, c.typed w.0 1 a ws i names vs ty (t.Ident any_ident ∷ tail) any_values tail v w.1 (one_value tail));
+      made = written (i ∷ names) (Some ty.0) any_values;
+      stands = λ tail a vs w ws v. (max w.0 1, c.typed w.0 1 a ws i names vs ty.0 (t.Ident any_ident ∷ tail) any_values tail v w.1 (one_value tail));
     })
-    (λ k vs e. value_reads ExprsAt (Past assign (After TypeAt (Rest i names) ty)) (exprs_at n) (λ xs. written (i ∷ names) (Some ty) xs) vs
-    (λ ws xs rest q a us' w vs' v. (max w.0 q.0, c.typed w.0 q.0 a vs' i names us' ty ws xs rest v w.1 q.1)) (exprs_at n vs) (exprs_read n vs)))
+    (λ k vs e. value_reads ExprsAt (Past assign (After TypeAt (Rest i names) ty)) (exprs_at n) (λ xs. written (i ∷ names) (Some ty.0) xs) vs
+    (λ ws xs rest q a us' w vs' v. (max w.0 q.0, c.typed w.0 q.0 a vs' i names us' ty.0 ws xs rest v w.1 q.1)) (exprs_at n vs) (exprs_read n vs)))
     (type_at n ts) (type_reads n ts)
 
 rest_reads : (n : ℕ) (i : Ident) (names : List Ident) (ts : List Symbol) → ReadsAt (Rest i names) (const_rest n (i ∷ names)) ts (const_rest n (i ∷ names) ts)

@@ -9,7 +9,7 @@ use Rattle.go_syntax.specs.declared.tree.Top.{Top}
 use Rattle.go_syntax.specs.declared.faults.Fault.{Fault}
 use Rattle.go_syntax.specs.declared.faults.Stop.{Stop}
 use Rattle.go_syntax.specs.declared.faults.Stop.TheVariants as stop
-use Rattle.go_syntax.specs.Reading.{Reply, ◌>>=◌, past, is_comma, is_semicolon, is_close_paren, row_by, row, Fails}
+use Rattle.go_syntax.specs.Reading.{Reply, ◌>>=◌, past, is_comma, is_semicolon, is_close_paren, series_by, rows, row, Fails}
 use Rattle.go_syntax.specs.Operands.{expr_at}
 use Rattle.go_syntax.specs.Constants.{source_of, constants, exprs_step, exprs_at, const_spec_at}
 use Rattle.go_syntax.specs.Files.{counting}
@@ -66,7 +66,7 @@ abbrev pub next_of : List Top → ℕ → Written → Top
 next_of found last w = constants w (length found) (source_of w.values (length found) last)
 
 count_opens : (n : ℕ) (found : List Top) (last : ℕ) (rest : List Symbol)
-    → counts_on n found last rest ≡ with_front found (counting (length found) last (row_by is_close_paren (const_spec_at n) (row is_close_paren (const_spec_at n)) rest))
+    → counts_on n found last rest ≡ with_front found (counting (length found) last (series_by (rows is_close_paren) (const_spec_at n) (row is_close_paren (const_spec_at n)) rest))
 count_opens n found last rest = ap (λ (r : Reply (List Written)). with_front found (counting (length found) last r)) (row_is is_close_paren (const_spec_at n) (const_eats n) rest)
 
 count_regroup : (found : List Top) (last : ℕ) (w : Written) (read : Reply (List Written))
@@ -78,12 +78,12 @@ count_regroup found last w (Err f) = refl
 
 pub count_closed : (n : ℕ) (found : List Top) (last : ℕ) (rest after : List Symbol) (total : Reply (List Top)) → past is_close_paren rest ≡ Ok after → counts_on n found last rest ≡ total → total ≡ Ok (found, after)
 count_closed n found last rest after total e so =
-    let here : with_front found (counting (length found) last (row_by is_close_paren (const_spec_at n) (row is_close_paren (const_spec_at n)) rest)) ≡ Ok (found, after) = rw e (ap (λ (xs : List Top). Ok (xs, after)) (append-nil found)) in
+    let here : with_front found (counting (length found) last (series_by (rows is_close_paren) (const_spec_at n) (row is_close_paren (const_spec_at n)) rest)) ≡ Ok (found, after) = rw e (ap (λ (xs : List Top). Ok (xs, after)) (append-nil found)) in
     sym so ∙ count_opens n found last rest ∙ here
 
 count_fails : (n : ℕ) (found : List Top) (last : ℕ) (rest : List Symbol) (g f : Fault) (total : Reply (List Top)) → past is_close_paren rest ≡ Err g → const_spec_at n rest ≡ Err f → counts_on n found last rest ≡ total → total ≡ Err f
 count_fails n found last rest g f total e h so =
-    let here : with_front found (counting (length found) last (row_by is_close_paren (const_spec_at n) (row is_close_paren (const_spec_at n)) rest)) ≡ Err f = rw (e, h) refl in
+    let here : with_front found (counting (length found) last (series_by (rows is_close_paren) (const_spec_at n) (row is_close_paren (const_spec_at n)) rest)) ≡ Err f = rw (e, h) refl in
     sym so ∙ count_opens n found last rest ∙ here
 
 pub count_stops : (n : ℕ) (found : List Top) (last : ℕ) (rest : List Symbol) (g : Fault) (s : Stop) (total : Reply (List Top)) → past is_close_paren rest ≡ Err g → Fails s (const_spec_at n rest) → counts_on n found last rest ≡ total → Fails s total
@@ -93,18 +93,18 @@ count_stops n found last rest g (stop.At f) total e h so = count_fails n found l
 pub count_last : (n : ℕ) (found : List Top) (last : ℕ) (rest : List Symbol) (g : Fault) (w : Written) (us after : List Symbol) (total : Reply (List Top)) → past is_close_paren rest ≡ Err g → const_spec_at n rest ≡ Ok (w, us)
     → past is_close_paren us ≡ Ok after → counts_on n found last rest ≡ total → total ≡ Ok (found ++ next_of found last w ∷ [], after)
 count_last n found last rest g w us after total e h p so =
-    let here : with_front found (counting (length found) last (row_by is_close_paren (const_spec_at n) (row is_close_paren (const_spec_at n)) rest)) ≡ Ok (found ++ next_of found last w ∷ [], after) = rw (e, h, p) refl in
+    let here : with_front found (counting (length found) last (series_by (rows is_close_paren) (const_spec_at n) (row is_close_paren (const_spec_at n)) rest)) ≡ Ok (found ++ next_of found last w ∷ [], after) = rw (e, h, p) refl in
     sym so ∙ count_opens n found last rest ∙ here
 
 pub count_stuck : (n : ℕ) (found : List Top) (last : ℕ) (rest : List Symbol) (g : Fault) (w : Written) (us : List Symbol) (d f : Fault) (total : Reply (List Top)) → past is_close_paren rest ≡ Err g → const_spec_at n rest ≡ Ok (w, us)
     → past is_close_paren us ≡ Err d → past is_semicolon us ≡ Err f → counts_on n found last rest ≡ total → total ≡ Err f
 count_stuck n found last rest g w us d f total e h p q so =
-    let here : with_front found (counting (length found) last (row_by is_close_paren (const_spec_at n) (row is_close_paren (const_spec_at n)) rest)) ≡ Err f = rw (e, h, p, q) refl in
+    let here : with_front found (counting (length found) last (series_by (rows is_close_paren) (const_spec_at n) (row is_close_paren (const_spec_at n)) rest)) ≡ Err f = rw (e, h, p, q) refl in
     sym so ∙ count_opens n found last rest ∙ here
 
 pub count_more : (n : ℕ) (found : List Top) (last : ℕ) (rest : List Symbol) (g : Fault) (w : Written) (us vs : List Symbol) (d : Fault) (total : Reply (List Top)) → past is_close_paren rest ≡ Err g → const_spec_at n rest ≡ Ok (w, us)
     → past is_close_paren us ≡ Err d → past is_semicolon us ≡ Ok vs → counts_on n found last rest ≡ total → counts_on n (found ++ next_of found last w ∷ []) (source_of w.values (length found) last) vs ≡ total
 count_more n found last rest g w us vs d total e h p q so =
-    let here : with_front found (counting (length found) last (row_by is_close_paren (const_spec_at n) (row is_close_paren (const_spec_at n)) rest)) ≡ counts_on n (found ++ next_of found last w ∷ []) (source_of w.values (length found) last) vs =
+    let here : with_front found (counting (length found) last (series_by (rows is_close_paren) (const_spec_at n) (row is_close_paren (const_spec_at n)) rest)) ≡ counts_on n (found ++ next_of found last w ∷ []) (source_of w.values (length found) last) vs =
     rw (e, h, p, q) (count_regroup found last w (row is_close_paren (const_spec_at n) vs)) in
     sym here ∙ sym (count_opens n found last rest) ∙ so

@@ -7,31 +7,34 @@ use Rattle.go_syntax.specs.declared.tree.Import.{Import}
 use Rattle.go_syntax.specs.declared.tree.Top.{Top}
 use Rattle.go_syntax.specs.declared.tree.TypeExpr.{TypeExpr}
 use Rattle.go_syntax.specs.declared.tree.SourceFile.{SourceFile}
-use Rattle.go_syntax.specs.Reading.{Reply, starts, is_dot, is_comma, is_assign, is_open_paren, is_close_paren, is_import, is_var, is_type, is_const, row}
+use Rattle.go_syntax.specs.Reading.{Reply, starts, begins_type, is_comma, is_assign, is_open_paren, is_close_paren, is_import, is_var, is_type, is_const, row}
 use Rattle.go_syntax.specs.Names as names_of
 use Rattle.go_syntax.specs.Names.{IsNames}
-use Rattle.go_syntax.specs.Types.{begins_type, type_at}
+use Rattle.go_syntax.specs.Types.{type_at}
 use Rattle.go_syntax.specs.declared.constants.Written.{Written}
 use Rattle.go_syntax.specs.Constants.{IsConstSpec, counted, const_spec_at}
 use Rattle.go_syntax.specs.Decls as d
 use Rattle.go_syntax.specs.Decls.{vars, defined, alias, source_file, IsImport, IsVarSpec, IsTypeSpec, IsBlock, IsGroup, IsImports, IsTops, IsFileOf}
 use Rattle.go_syntax.specs.Files.{import_at, vars_typed, vars_more, var_spec_at, alias_by, defined_by, type_spec_at, single_at, group_at, const_group_at, decl_end, decl_at, import_step, top_step, imports_at, tops_at, file_tops, file_imports, file_front}
 use Rattle.go_syntax.proofs.Rows.{Eats, eats_of}
-use Rattle.go_syntax.proofs.Steps.{Any, steps_is}
+use Rattle.go_syntax.proofs.Steps.{steps_is}
+use Rattle.go_syntax.proofs.Groups.{Any}
 use Rattle.go_syntax.proofs.ConstReads.{no_const, const_reads}
 use Rattle.go_syntax.proofs.ConstAgain.{ends_spec, Ended, const_not_open, const_not_close, const_again}
 use Rattle.go_syntax.proofs.FileReads.{import_reads, no_import_here, var_reads, no_var, spec_reads, no_spec, import_local, top_local}
-use Rattle.go_syntax.proofs.Agreeing.{Agrees, agrees_bind, choose_other, names_again, row_none, row_last, row_more}
-use Rattle.go_syntax.proofs.TypeAgain.{Free, next_so, type_no_comma, type_begins, type_again}
+use Rattle.go_syntax.proofs.Agreeing.{Agrees, agrees_bind, sized, choose_other, names_again, row_none, row_last, row_more}
+use Rattle.go_syntax.proofs.Follows.{goes_on, Free, next_so, no_comma, type_begins}
+use Rattle.go_syntax.proofs.TypeAgain.{type_again}
 
 -- ---- specifications
 
-ends_dot : (k : Symbol) → ends_spec k ≡ true → is_dot k ≡ false
-ends_dot (t.Dot c) e = absurd cc
-ends_dot _ e = refl
+ends_on : (k : Symbol) → ends_spec k ≡ true → goes_on k ≡ false
+ends_on (t.Semicolon c) e = refl
+ends_on (t.CloseParen c) e = refl
+ends_on _ e = absurd cc
 
 ended_free : (rest : List Symbol) → Ended rest → Free rest
-ended_free rest e = next_so ends_spec is_dot true false rest ends_dot (λ h. refl) e
+ended_free rest e = next_so ends_spec goes_on true false rest ends_on (λ h. refl) e
 
 type_no_assign : (k : Symbol) → begins_type k ≡ true → is_assign k ≡ false
 type_no_assign (t.Assign c) e = absurd cc
@@ -41,15 +44,15 @@ import_again : (n m : ℕ) (ts : List Symbol) (x : Import) (rest : List Symbol) 
 import_again n m ts x rest (d.plainly s r) = (refl, refl, omega arith)
 import_again n m ts x rest (d.named_so i s r) = (refl, refl, omega arith)
 
-typed_again : (n m : ℕ) (names : List Ident) (us : List Symbol) (ty : TypeExpr) (rest : List Symbol) → Agrees n m ty rest (type_at n us) → Agrees n m (vars names ty) rest (vars_typed n names us)
-typed_again n m names us ty rest h = agrees_bind n m ty rest n m (vars names ty) rest (type_at n us) (λ z ws. Ok (vars names z, ws)) h (λ x. x) (λ f. (refl, refl, f))
+typed_again : (n m : ℕ) (names : List Ident) (us : List Symbol) (ty : TypeExpr) (rest : List Symbol) → Agrees n m (sized n m ty) rest (type_at n us) → Agrees n m (vars names ty) rest (vars_typed n names us)
+typed_again n m names us ty rest h = agrees_bind n m (sized n m ty) rest n m (vars names ty) rest (type_at n us) (λ z ws. Ok (vars names z.0, ws)) h (λ x. x) (λ f. (refl, refl, f))
 
-names_typed : (n m : ℕ) (i : Ident) (names : List Ident) (ts us : List Symbol) (ty : TypeExpr) (rest : List Symbol) → IsNames ts (i ∷ names) us → starts begins_type us ≡ true → Agrees n m ty rest (type_at n us)
+names_typed : (n m : ℕ) (i : Ident) (names : List Ident) (ts us : List Symbol) (ty : TypeExpr) (rest : List Symbol) → IsNames ts (i ∷ names) us → starts begins_type us ≡ true → Agrees n m (sized n m ty) rest (type_at n us)
     → Agrees n m (vars (i ∷ names) ty) rest (var_spec_at n ts)
 names_typed n m i names ts us ty rest (names_of.one j r) b h =
-    rw (choose_other is_comma us (vars_more n i) (vars_typed n (i ∷ []) us) (next_so begins_type is_comma true false us type_no_comma (λ e. refl) b)) (typed_again n m (i ∷ []) us ty rest h)
+    rw (choose_other is_comma us (vars_more n i) (vars_typed n (i ∷ []) us) (no_comma us b)) (typed_again n m (i ∷ []) us ty rest h)
 names_typed n m i names ts us ty rest (names_of.more j c ws ns r q) b h =
-    rw (names_again ws names us q (next_so begins_type is_comma true false us type_no_comma (λ e. refl) b)) (typed_again n m (i ∷ names) us ty rest h)
+    rw (names_again ws names us q (no_comma us b)) (typed_again n m (i ∷ names) us ty rest h)
 
 var_again : (n m : ℕ) (ts : List Symbol) (x : Top) (rest : List Symbol) → IsVarSpec m ts x rest → Free rest → Agrees n m x rest (var_spec_at n ts)
 var_again n m ts x rest (d.of_type j us i names vs ty r a b) e = names_typed n j i names us vs ty r a (type_begins j vs ty r b) (type_again j vs ty r b e n)
@@ -57,8 +60,8 @@ var_again n m ts x rest (d.of_type j us i names vs ty r a b) e = names_typed n j
 spec_again : (n m : ℕ) (ts : List Symbol) (x : Top) (rest : List Symbol) → IsTypeSpec m ts x rest → Free rest → Agrees n m x rest (type_spec_at n ts)
 spec_again n m ts x rest (d.defines j i us ty r b) e =
     rw (choose_other is_assign us (alias_by n i) (defined_by n i us) (next_so begins_type is_assign true false us type_no_assign (λ h. refl) (type_begins j us ty r b)))
-    (agrees_bind n j ty r n j (defined i ty) r (type_at n us) (λ z ws. Ok (defined i z, ws)) (type_again j us ty r b e n) (λ x. x) (λ f. (refl, refl, f)))
-spec_again n m ts x rest (d.renames j i a us ty r b) e = agrees_bind n j ty r n j (alias i ty) r (type_at n us) (λ z ws. Ok (alias i z, ws)) (type_again j us ty r b e n) (λ x. x) (λ f. (refl, refl, f))
+    (agrees_bind n j (sized n j ty) r n j (defined i ty) r (type_at n us) (λ z ws. Ok (defined i z.0, ws)) (type_again j us ty r b e n) (λ x. x) (λ f. (refl, refl, f)))
+spec_again n m ts x rest (d.renames j i a us ty r b) e = agrees_bind n j (sized n j ty) r n j (alias i ty) r (type_at n us) (λ z ws. Ok (alias i z.0, ws)) (type_again j us ty r b e n) (λ x. x) (λ f. (refl, refl, f))
 
 -- ---- groups
 

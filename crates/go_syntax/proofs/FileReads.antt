@@ -18,12 +18,13 @@ use Rattle.go_syntax.specs.Decls.{import, vars, defined, alias, source_file, IsI
 use Rattle.go_syntax.specs.Files.{text_at, named_import, dot_import, import_at, vars_typed, vars_more, vars_first, var_spec_at, alias_by, defined_by, type_first, type_spec_at, group_at, const_group_at, decl_at, import_step, top_step, imports_at, tops_at, file_tops, file_imports, file_clause, file_name, file_front}
 use Rattle.go_syntax.proofs.Viable.{next_is, ReadsAt, Sample, Behind, Past, After, done_reads, refuse_reads, refuse_next, refuse_end, like_reads, as_reads, cons_reads, past_reads, choose_reads_on, choose_reads, bind_reads, value_reads}
 use Rattle.go_syntax.proofs.Marks.{semicolon, comma, assign, import_word, var_word, type_word, const_word, package_word}
-use Rattle.go_syntax.proofs.NameReads.{IsIdent, any_ident, ident_reads, names_reads, no_names}
-use Rattle.go_syntax.proofs.FieldReads.{TypeAt, some_type, through_value}
+use Rattle.go_syntax.proofs.NameReads.{IsIdent, any_ident, ident_reads, names_reads, no_names, through_value}
+use Rattle.go_syntax.proofs.Standing.{TypeAt, some_type}
 use Rattle.go_syntax.proofs.TypeReads.{type_reads}
 use Rattle.go_syntax.proofs.ConstReads.{no_const, const_reads}
 use Rattle.go_syntax.proofs.Rows.{Eats, eats_of, choose_same}
-use Rattle.go_syntax.proofs.Steps.{Local, steps_read, Any, group_reads, decl_same, decl_reads}
+use Rattle.go_syntax.proofs.Steps.{Local, steps_read}
+use Rattle.go_syntax.proofs.Groups.{Any, group_reads, decl_same, decl_reads}
 
 -- ---- imports
 
@@ -68,7 +69,7 @@ VarAt = Any IsVarSpec
 
 typed_reads : (n : ℕ) (i : Ident) (names : List Ident) (ts : List Symbol) → ReadsAt (After IsNames VarAt (i ∷ names)) (vars_typed n (i ∷ names)) ts (vars_typed n (i ∷ names) ts)
 typed_reads n i names ts =
-    value_reads TypeAt (After IsNames VarAt (i ∷ names)) (type_at n) (λ ty. vars (i ∷ names) ty) ts (λ us ty rest w vs v. (w.0, d.of_type w.0 vs i names us ty rest v w.1)) (type_at n ts) (type_reads n ts)
+    value_reads TypeAt (After IsNames VarAt (i ∷ names)) (type_at n) (λ ty. vars (i ∷ names) ty.0) ts (λ us ty rest w vs v. (w.0, d.of_type w.0 vs i names us ty.0 rest v w.1)) (type_at n ts) (type_reads n ts)
 
 abbrev flat_vars : ℕ → Ident → List Symbol → Reply Top
 flat_vars n i ts = names_at ts >>= λ names. vars_typed n (i ∷ names.0) names.1
@@ -81,7 +82,7 @@ flat_reads n i ts =
     bind_reads IsNames (Past comma (Behind (t.Ident i) VarAt)) names_at (λ names us. vars_typed n (i ∷ names) us) ts
     (λ names. record {
       tokens = some_type.tokens;
-      made = vars (i ∷ names) some_type.made;
+      made = vars (i ∷ names) some_type.made.0;
       stands = λ tail us w c. let s = some_type.stands tail in (s.0, d.of_type s.0 (t.Ident i ∷ t.Comma c ∷ us) i names _ _ tail (more i c us names _ w) s.1);
     })
     (λ names us o. as_reads (After IsNames VarAt (i ∷ names)) (After IsNames (Past comma (Behind (t.Ident i) VarAt)) names) (vars_typed n (i ∷ names)) us (vars_typed n (i ∷ names) us)
@@ -98,7 +99,7 @@ first_reads n i ts =
 pub var_reads : (n : ℕ) (ts : List Symbol) → ReadsAt VarAt (var_spec_at n) ts (var_spec_at n ts)
 var_reads n ts =
     bind_reads IsIdent VarAt ident_at (vars_first n) ts
-    (λ i. record { tokens = some_type.tokens; made = vars (i ∷ []) some_type.made; stands = λ tail us e. let s = some_type.stands tail in rw e (s.0, d.of_type s.0 _ i [] _ _ tail (one i _) s.1) })
+    (λ i. record { tokens = some_type.tokens; made = vars (i ∷ []) some_type.made.0; stands = λ tail us e. let s = some_type.stands tail in rw e (s.0, d.of_type s.0 _ i [] _ _ tail (one i _) s.1) })
     (λ i us o. as_reads (Behind (t.Ident i) VarAt) (After IsIdent VarAt i) (vars_first n i) us (vars_first n i us) (λ vs x rest w ws e. rw e w) (first_reads n i us))
     (ident_at ts) (ident_reads ts)
 
@@ -116,13 +117,13 @@ SpecAt = Any IsTypeSpec
 spec_first_reads : (n : ℕ) (i : Ident) (ts : List Symbol) → ReadsAt (Behind (t.Ident i) SpecAt) (type_first n i) ts (type_first n i ts)
 spec_first_reads n i ts =
     choose_reads is_assign (Behind (t.Ident i) SpecAt) assign (alias_by n i) (defined_by n i) ts
-    (λ us. value_reads TypeAt (Past assign (Behind (t.Ident i) SpecAt)) (type_at n) (λ ty. alias i ty) us (λ vs ty rest w a. (w.0, d.renames w.0 i a vs ty rest w.1)) (type_at n us) (type_reads n us))
-    (λ e. value_reads TypeAt (Behind (t.Ident i) SpecAt) (type_at n) (λ ty. defined i ty) ts (λ vs ty rest w. (w.0, d.defines w.0 i vs ty rest w.1)) (type_at n ts) (type_reads n ts))
+    (λ us. value_reads TypeAt (Past assign (Behind (t.Ident i) SpecAt)) (type_at n) (λ ty. alias i ty.0) us (λ vs ty rest w a. (w.0, d.renames w.0 i a vs ty.0 rest w.1)) (type_at n us) (type_reads n us))
+    (λ e. value_reads TypeAt (Behind (t.Ident i) SpecAt) (type_at n) (λ ty. defined i ty.0) ts (λ vs ty rest w. (w.0, d.defines w.0 i vs ty.0 rest w.1)) (type_at n ts) (type_reads n ts))
 
 pub spec_reads : (n : ℕ) (ts : List Symbol) → ReadsAt SpecAt (type_spec_at n) ts (type_spec_at n ts)
 spec_reads n ts =
     bind_reads IsIdent SpecAt ident_at (type_first n) ts
-    (λ i. record { tokens = some_type.tokens; made = defined i some_type.made; stands = λ tail us e. let s = some_type.stands tail in rw e (s.0, d.defines s.0 i _ _ tail s.1) })
+    (λ i. record { tokens = some_type.tokens; made = defined i some_type.made.0; stands = λ tail us e. let s = some_type.stands tail in rw e (s.0, d.defines s.0 i _ _ tail s.1) })
     (λ i us o. as_reads (Behind (t.Ident i) SpecAt) (After IsIdent SpecAt i) (type_first n i) us (type_first n i us) (λ vs x rest w ws e. rw e w) (spec_first_reads n i us))
     (ident_at ts) (ident_reads ts)
 

@@ -2,7 +2,7 @@
 use Rattle.std.proofs.Common.{◌≡◌, ℕ, true, refl}
 use Rattle.go_syntax.specs.declared.symbols.Symbol.{Symbol}
 use Rattle.go_syntax.specs.declared.symbols.Symbol.TheVariants as t
-use Rattle.go_syntax.specs.Reading.{is_semicolon, is_comma, is_arrow, is_dot, is_close_paren, is_open_bracket, is_close_bracket, is_open_brace, is_close_brace, is_chan, is_package, is_open_paren, is_assign, is_import, is_var, is_type, is_const}
+use Rattle.go_syntax.specs.Reading.{is_semicolon, is_comma, is_arrow, is_dot, is_close_paren, is_open_bracket, is_close_bracket, is_open_brace, is_close_brace, is_chan, is_package, is_open_paren, is_assign, is_import, is_var, is_type, is_const, is_ellipsis, is_tilde, is_bar}
 use Rattle.go_syntax.proofs.Viable.{Kind}
 
 pub only_semicolon : (k : Symbol) → is_semicolon k ≡ true → (at : ℕ) × (k ≡ t.Semicolon at)
@@ -123,3 +123,24 @@ only_const _ h = absurd cc
 
 abbrev pub const_word : Kind is_const
 const_word = record { make = t.Const; holds = λ at. refl; only = only_const }
+
+pub only_ellipsis : (k : Symbol) → is_ellipsis k ≡ true → (at : ℕ) × (k ≡ t.Ellipsis at)
+only_ellipsis (t.Ellipsis at) h = (at, refl)
+only_ellipsis _ h = absurd cc
+
+abbrev pub ellipsis : Kind is_ellipsis
+ellipsis = record { make = t.Ellipsis; holds = λ at. refl; only = only_ellipsis }
+
+pub only_tilde : (k : Symbol) → is_tilde k ≡ true → (at : ℕ) × (k ≡ t.Tilde at)
+only_tilde (t.Tilde at) h = (at, refl)
+only_tilde _ h = absurd cc
+
+abbrev pub tilde : Kind is_tilde
+tilde = record { make = t.Tilde; holds = λ at. refl; only = only_tilde }
+
+pub only_bar : (k : Symbol) → is_bar k ≡ true → (at : ℕ) × (k ≡ t.Bar at)
+only_bar (t.Bar at) h = (at, refl)
+only_bar _ h = absurd cc
+
+abbrev pub bar : Kind is_bar
+bar = record { make = t.Bar; holds = λ at. refl; only = only_bar }

@@ -1,10 +1,10 @@
 -- What the readers of names and tags do.
-use Rattle.std.proofs.Common.{◌≡◌, List, [], ◌∷◌, Some, None, Ok, refl}
+use Rattle.std.proofs.Common.{◌≡◌, List, [], ◌∷◌, Some, None, Ok, Err, refl}
 use Rattle.go_syntax.specs.declared.symbols.Symbol.{Symbol}
 use Rattle.go_syntax.specs.declared.symbols.Symbol.TheVariants as t
 use Rattle.go_syntax.specs.declared.symbols.Ident.{Ident}
 use Rattle.go_syntax.specs.declared.tree.NameExpr.{NameExpr}
-use Rattle.go_syntax.specs.Reading.{is_dot}
+use Rattle.go_syntax.specs.Reading.{Reply, ◌>>=◌, is_dot}
 use Rattle.go_syntax.specs.Names.{plain, selected, IsTypeName, own, of_package, IsNames, one, more, IsTag, none, some, ident_at, tag_at, selected_by, dotted, names_more, names_end, names_at}
 use Rattle.go_syntax.proofs.Viable.{ReadsAt, Sample, Behind, Past, done_reads, refuse_next, refuse_end, next_is, ends_so, cons_reads, choose_reads, value_reads}
 use Rattle.go_syntax.proofs.Marks.{dot}
@@ -61,6 +61,15 @@ names_reads (t.Ident i ∷ k ∷ ts) =
     cons_reads IsNames names_at (names_end names_at i) (t.Ident i) (k ∷ ts) (Ok (i ∷ [], k ∷ ts)) (after_ident i)
     (done_reads (Behind (t.Ident i) IsNames) (names_end names_at i) (k ∷ ts) (i ∷ []) (λ tail. one i tail) (next_is (λ r. names_end names_at i r ≡ Ok (i ∷ [], r)) k (λ r. refl)))
 names_reads (k ∷ ts) = refuse_next IsNames names_at k ts some_names (λ r. refl)
+
+-- ---- a value made, and then used
+
+abbrev pub valued : {A B : Type 0} → (A → B) → A × List Symbol → Reply B
+valued v z = Ok (v z.0, z.1)
+
+pub through_value : {A B C : Type 0} (r : Reply A) (v : A → B) (q : B → List Symbol → Reply C) → ((r >>= valued v) >>= λ z. q z.0 z.1) ≡ (r >>= λ z. q (v z.0) z.1)
+through_value (Ok z) v q = refl
+through_value (Err f) v q = refl
 
 -- ---- none of them stands of no tokens
 

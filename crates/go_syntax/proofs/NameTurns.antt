@@ -35,14 +35,14 @@ names_go found rest i after next total e p so =
     let here : with_front found (by_ident rest) ≡ with_front (found ++ i ∷ []) (names_at next) = rw (e, p) (regroup found i (names_at next)) in
     sym here ∙ sym (ap (with_front found) (names_step rest)) ∙ so
 
-abbrev read : Ident → List Symbol → Reply Ident
+abbrev pub read : Ident → List Symbol → Reply Ident
 read i ts = Ok (i, ts)
 
 abbrev rest_of : List Symbol → Reply Ident → List Symbol
 rest_of ts (Ok z) = z.1
 rest_of ts (Err f) = ts
 
-ok_rest : (j i : Ident) (ts after : List Symbol) → read j ts ≡ read i after → ts ≡ after
+pub ok_rest : (j i : Ident) (ts after : List Symbol) → read j ts ≡ read i after → ts ≡ after
 ok_rest j i ts after e = ap (rest_of ts) e
 
 ident_shorter : (ts : List Symbol) (i : Ident) (after : List Symbol) → ident_at ts ≡ Ok (i, after) → length after < length ts

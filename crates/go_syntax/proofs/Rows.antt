@@ -1,11 +1,10 @@
--- Rows of items: their number of turns never shows, and they do what each item does.
-use Rattle.std.proofs.Common.{◌≡◌, ℕ, zero, suc, ◌<◌, Bool, true, false, if◌then◌else◌, List, [], ◌∷◌, length, Result, Ok, Err, refl, sym, ap, subst, arith}
+-- Series of items, and chains of them: they do what each item does.
+use Rattle.std.proofs.Common.{◌≡◌, ℕ, ◌<◌, Bool, true, false, if◌then◌else◌, List, [], ◌∷◌, length, Result, Ok, Err, refl, sym, ap, subst, arith}
 use Rattle.go_syntax.specs.declared.symbols.Symbol.{Symbol}
-use Rattle.go_syntax.specs.declared.symbols.Symbol.TheVariants as t
 use Rattle.go_syntax.specs.declared.faults.Fault.{Fault}
-use Rattle.go_syntax.specs.Reading.{Reply, ◌>>=◌, unexpected, past, choose, is_semicolon, row_more, row_end, row_item, row_by, row_of, row}
-use Rattle.go_syntax.proofs.Viable.{ReadsAt, Kind, Past, After, eats, like_reads, done_reads, choose_reads, past_reads, bind_reads, value_reads}
-use Rattle.go_syntax.proofs.Marks.{semicolon}
+use Rattle.go_syntax.specs.Reading.{Reply, ◌>>=◌, unexpected, past, choose, Shape, series_more, series_close, series_next, series_end, series_item, series_by, series, rows, row, chain_more, chain_end, chain_by, chain}
+use Rattle.go_syntax.proofs.Viable.{ReadsAt, Sample, Kind, Past, After, eats, done_reads, choose_reads, choose_reads_on, past_reads, bind_reads, value_reads}
+use Rattle.go_syntax.proofs.Steps.{Local, steps_is, steps_read}
 
 pub bind_same : {A B : Type 0} (r : Result A Fault) (f g : A → Result B Fault) → ((a : A) → r ≡ Ok a → f a ≡ g a) → (r >>= f) ≡ (r >>= g)
 bind_same (Ok a) f g h = h a refl
@@ -32,66 +31,109 @@ choose_same is f g a b (k ∷ ts) h e = if_same (is k) k f g a b ts (h ts (omega
 abbrev pub Eats : {X : Type 0} → (List Symbol → Reply X) → Type 0
 Eats {X} one = (ts : List Symbol) (z : X × List Symbol) → one ts ≡ Ok z → length z.1 < length ts
 
-by_same : {X : Type 0} (closes : Symbol → Bool) (one : List Symbol → Reply X) (f g : List Symbol → Reply (List X)) (ts : List Symbol) → Eats one
-    → ((vs : List Symbol) → length vs < length ts → f vs ≡ g vs) → row_by closes one f ts ≡ row_by closes one g ts
-by_same closes one f g ts eats_one h =
-    ap (choose (past closes ts) (λ rest. Ok ([], rest)))
-    (bind_same (one ts) _ _ (λ z e. ap (choose (past closes z.1) (λ rest. Ok (z.0 ∷ [], rest)))
-    (bind_same (past is_semicolon z.1) _ _ (λ vs p.
-    let less : length z.1 < length ts = eats_one ts z e in
-    let fewer : length vs < length z.1 = past_shorter is_semicolon z.1 vs p in
-    ap (λ (m : Reply _). m >>= λ xs. Ok (z.0 ∷ xs.0, xs.1)) (h vs (omega arith))))))
-
-enough : {X : Type 0} (closes : Symbol → Bool) (one : List Symbol → Reply X) → Eats one → (f g : ℕ) (ts : List Symbol) → length ts < f → length ts < g → row_of f closes one ts ≡ row_of g closes one ts
-unfolding row_of
-enough closes one eats_one zero g ts a b = absurd (omega arith)
-enough closes one eats_one (suc f) zero ts a b = absurd (omega arith)
-enough closes one eats_one (suc f) (suc g) ts a b =
-    by_same closes one (row_of f closes one) (row_of g closes one) ts eats_one (λ vs less. enough closes one eats_one f g vs (omega arith) (omega arith))
-
-pub row_is : {X : Type 0} (closes : Symbol → Bool) (one : List Symbol → Reply X) → Eats one → (ts : List Symbol) → row closes one ts ≡ row_by closes one (row closes one) ts
-unfolding row_of
-row_is closes one eats_one ts = by_same closes one (row_of (length ts) closes one) (row closes one) ts eats_one (λ vs less. enough closes one eats_one (length ts) (suc (length vs)) vs less (omega arith))
-
--- ---- what a row of F is
-
-pub record IsRow {X : Type 0} {closes : Symbol → Bool} (K : Kind closes) (F : List Symbol → X → List Symbol → Type 0) (Q : List Symbol → List X → List Symbol → Type 0) : Type 0 where
-  pub none : (c : ℕ) (rest : List Symbol) → Q (K.make c ∷ rest) [] rest
-  pub last : (c : ℕ) (ts : List Symbol) (x : X) (rest : List Symbol) → F ts x (K.make c ∷ rest) → Q ts (x ∷ []) rest
-  pub more : (s : ℕ) (ts us : List Symbol) (x : X) (xs : List X) (rest : List Symbol) → F ts x (t.Semicolon s ∷ us) → Q us xs rest → Q ts (x ∷ xs) rest
-
 pub eats_of : {X : Type 0} (F : List Symbol → X → List Symbol → Type 0) (one : List Symbol → Reply X) → ((x : X) (us : List Symbol) → F [] x us → ⊥) → ((ts : List Symbol) → ReadsAt F one ts (one ts)) → Eats one
 eats_of F one never h ts z e = eats F one ts z.0 z.1 (λ us w. never z.0 us w) (subst (ReadsAt F one ts) e (h ts))
 
-end_reads : {X : Type 0} (closes : Symbol → Bool) (K : Kind closes) (F : List Symbol → X → List Symbol → Type 0) (Q : List Symbol → List X → List Symbol → Type 0) (R : IsRow K F Q) (more : List Symbol → Reply (List X)) (x : X) (us : List Symbol)
-    → ((vs : List Symbol) → length vs < length us → ReadsAt Q more vs (more vs)) → ReadsAt (After F Q x) (row_end closes more x) us (row_end closes more x us)
-end_reads closes K F Q R more x us h =
-    choose_reads closes (After F Q x) K (λ rest. Ok (x ∷ [], rest)) (λ vs. past is_semicolon vs >>= λ ws. row_more more x ws) us
-    (λ vs. done_reads (Past K (After F Q x)) (λ rest. Ok (x ∷ [], rest)) vs (x ∷ []) (λ tail c ts w. R.last c ts x tail w) (λ r e. refl))
-    (λ e. past_reads is_semicolon (After F Q x) semicolon (row_more more x) us
-    (record { tokens = K.make 0 ∷ []; made = x ∷ []; stands = λ tail s ts w. R.more s ts (K.make 0 ∷ tail) x [] tail w (R.none 0 tail) })
-    (λ k vs same. value_reads Q (Past semicolon (After F Q x)) more (λ xs. x ∷ xs) vs (λ ws xs rest w s ts f. R.more s ts ws x xs rest f w) (more vs) (h vs (rw same (omega arith)))))
+-- ---- series
 
-by_reads : {X : Type 0} (closes : Symbol → Bool) (K : Kind closes) (F : List Symbol → X → List Symbol → Type 0) (Q : List Symbol → List X → List Symbol → Type 0) (R : IsRow K F Q) (one : List Symbol → Reply X) (more : List Symbol → Reply (List X)) (ts : List Symbol)
-    → ((x : X) (us : List Symbol) → F [] x us → ⊥) → ((us : List Symbol) → ReadsAt F one us (one us))
-    → ((vs : List Symbol) → length vs < length ts → ReadsAt Q more vs (more vs)) → ReadsAt Q (row_by closes one more) ts (row_by closes one more ts)
-by_reads closes K F Q R one more ts never item h =
-    choose_reads closes Q K (λ rest. Ok ([], rest)) (row_item closes one more) ts
-    (λ vs. done_reads (Past K Q) (λ rest. Ok ([], rest)) vs [] (λ tail c. R.none c tail) (λ r e. refl))
-    (λ e. bind_reads F Q one (row_end closes more) ts
-    (λ x. record { tokens = K.make 0 ∷ []; made = x ∷ []; stands = λ tail us w. R.last 0 us x tail w })
-    (λ x us o. end_reads closes K F Q R more x us (λ vs less. let fewer : length us < length ts = eats F one ts x us (λ vs w. never x vs w) o in h vs (omega arith)))
-    (one ts) (item ts))
+next_same : {X Y : Type 0} (S : Shape X Y) (f g : List Symbol → Reply Y) (x : X) (vs : List Symbol) (b : Bool) → f vs ≡ g vs
+    → (if b then series_close S x vs else series_more S f x vs) ≡ (if b then series_close S x vs else series_more S g x vs)
+next_same S f g x vs true h = refl
+next_same S f g x vs false h = ap (λ (m : Reply _). m >>= λ ys. Ok (S.cons x ys.0, ys.1)) h
 
-row_up : {X : Type 0} (closes : Symbol → Bool) (K : Kind closes) (F : List Symbol → X → List Symbol → Type 0) (Q : List Symbol → List X → List Symbol → Type 0) (R : IsRow K F Q) (one : List Symbol → Reply X)
-    → ((x : X) (us : List Symbol) → F [] x us → ⊥) → ((us : List Symbol) → ReadsAt F one us (one us)) → (n : ℕ) (ts : List Symbol) → length ts < n → ReadsAt Q (row closes one) ts (row closes one ts)
-row_up closes K F Q R one never item zero ts less = absurd (omega arith)
-row_up closes K F Q R one never item (suc n) ts less =
-    let eats_one = eats_of F one never item in
-    like_reads Q (row closes one) (row_by closes one (row closes one)) ts (row closes one ts) (λ r e. row_is closes one eats_one r)
-    (subst (ReadsAt Q (row_by closes one (row closes one)) ts) (sym (row_is closes one eats_one ts))
-    (by_reads closes K F Q R one (row closes one) ts never item (λ vs fewer. row_up closes K F Q R one never item n vs (omega arith))))
+pub series_local : {X Y : Type 0} (S : Shape X Y) (one : List Symbol → Reply X) → Eats one → Local (series_by S one)
+series_local S one eats_one f g ts h =
+    ap (choose (past S.closes ts) (λ rest. Ok (S.nil, rest)))
+    (bind_same (one ts) _ _ (λ z e. ap (choose (past S.closes z.1) (λ rest. Ok (S.cons z.0 S.nil, rest)))
+    (bind_same (past S.sep z.1) _ _ (λ vs p.
+    let less : length z.1 < length ts = eats_one ts z e in
+    let fewer : length vs < length z.1 = past_shorter S.sep z.1 vs p in
+    next_same S f g z.0 vs (S.final z.0) (h vs (omega arith))))))
 
-pub row_reads : {X : Type 0} (closes : Symbol → Bool) (K : Kind closes) (F : List Symbol → X → List Symbol → Type 0) (Q : List Symbol → List X → List Symbol → Type 0) (R : IsRow K F Q) (one : List Symbol → Reply X)
+pub series_is : {X Y : Type 0} (S : Shape X Y) (one : List Symbol → Reply X) → Eats one → (ts : List Symbol) → series S one ts ≡ series_by S one (series S one) ts
+series_is S one eats_one ts = steps_is (series_by S one) (series_local S one eats_one) ts
+
+pub row_is : {X : Type 0} (closes : Symbol → Bool) (one : List Symbol → Reply X) → Eats one → (ts : List Symbol) → row closes one ts ≡ series_by (rows closes) one (row closes one) ts
+row_is closes one eats_one ts = series_is (rows closes) one eats_one ts
+
+-- what a series of F is
+pub record IsSeries {X Y : Type 0} (S : Shape X Y) (F : List Symbol → X → List Symbol → Type 0) (Q : List Symbol → Y → List Symbol → Type 0) : Type 0 where
+  pub between : Kind S.sep
+  pub ending : Kind S.closes
+  pub none : (c : ℕ) (rest : List Symbol) → Q (ending.make c ∷ rest) S.nil rest
+  pub last : (c : ℕ) (ts : List Symbol) (x : X) (rest : List Symbol) → F ts x (ending.make c ∷ rest) → Q ts (S.cons x S.nil) rest
+  pub more : (s : ℕ) (ts us : List Symbol) (x : X) (ys : Y) (rest : List Symbol) → S.final x ≡ false → F ts x (between.make s ∷ us) → Q us ys rest → Q ts (S.cons x ys) rest
+  pub final : (s c : ℕ) (ts : List Symbol) (x : X) (rest : List Symbol) → S.final x ≡ true → F ts x (between.make s ∷ ending.make c ∷ rest) → Q ts (S.cons x S.nil) rest
+
+module _ {X Y : Type 0} (S : Shape X Y) (F : List Symbol → X → List Symbol → Type 0) (Q : List Symbol → Y → List Symbol → Type 0) (R : IsSeries S F Q) where
+  abbrev next_as : Bool → (List Symbol → Reply Y) → X → List Symbol → Reply Y
+  next_as b more x vs = if b then series_close S x vs else series_more S more x vs
+
+  -- what may stand after a separator
+  after_sep : (x : X) (b : Bool) → S.final x ≡ b → Sample (Past R.between (After F Q x))
+  after_sep x true e = record { tokens = R.ending.make 0 ∷ []; made = S.cons x S.nil; stands = λ tail s ts w. R.final s 0 ts x tail e w }
+  after_sep x false e = record { tokens = R.ending.make 0 ∷ []; made = S.cons x S.nil; stands = λ tail s ts w. R.more s ts (R.ending.make 0 ∷ tail) x S.nil tail e w (R.none 0 tail) }
+
+  next_reads : (more : List Symbol → Reply Y) (x : X) (vs : List Symbol) (b : Bool) → S.final x ≡ b → ReadsAt Q more vs (more vs) → ReadsAt (Past R.between (After F Q x)) (next_as b more x) vs (next_as b more x vs)
+  next_reads more x vs true e h =
+      past_reads S.closes (Past R.between (After F Q x)) R.ending (λ rest. Ok (S.cons x S.nil, rest)) vs
+      (record { tokens = []; made = S.cons x S.nil; stands = λ tail c s ts w. R.final s c ts x tail e w })
+      (λ k ws same. done_reads (Past R.ending (Past R.between (After F Q x))) (λ rest. Ok (S.cons x S.nil, rest)) ws (S.cons x S.nil) (λ tail c s ts w. R.final s c ts x tail e w) (λ r d. refl))
+  next_reads more x vs false e h = value_reads Q (Past R.between (After F Q x)) more (λ ys. S.cons x ys) vs (λ ws ys rest w s ts f. R.more s ts ws x ys rest e f w) (more vs) h
+
+  pub end_reads : (more : List Symbol → Reply Y) (x : X) (us : List Symbol) → ((vs : List Symbol) → length vs < length us → ReadsAt Q more vs (more vs)) → ReadsAt (After F Q x) (series_end S more x) us (series_end S more x us)
+  end_reads more x us h =
+      choose_reads S.closes (After F Q x) R.ending (λ rest. Ok (S.cons x S.nil, rest)) (λ vs. past S.sep vs >>= λ ws. series_next S more x ws) us
+      (λ vs. done_reads (Past R.ending (After F Q x)) (λ rest. Ok (S.cons x S.nil, rest)) vs (S.cons x S.nil) (λ tail c ts w. R.last c ts x tail w) (λ r e. refl))
+      (λ e. past_reads S.sep (After F Q x) R.between (series_next S more x) us (after_sep x (S.final x) refl)
+      (λ k vs same. next_reads more x vs (S.final x) refl (h vs (rw same (omega arith)))))
+
+  by_reads : (one : List Symbol → Reply X) (more : List Symbol → Reply Y) (ts : List Symbol) → ((x : X) (us : List Symbol) → F [] x us → ⊥) → ((us : List Symbol) → ReadsAt F one us (one us))
+      → ((vs : List Symbol) → length vs < length ts → ReadsAt Q more vs (more vs)) → ReadsAt Q (series_by S one more) ts (series_by S one more ts)
+  by_reads one more ts never item h =
+      choose_reads S.closes Q R.ending (λ rest. Ok (S.nil, rest)) (series_item S one more) ts
+      (λ vs. done_reads (Past R.ending Q) (λ rest. Ok (S.nil, rest)) vs S.nil (λ tail c. R.none c tail) (λ r e. refl))
+      (λ e. bind_reads F Q one (series_end S more) ts
+      (λ x. record { tokens = R.ending.make 0 ∷ []; made = S.cons x S.nil; stands = λ tail us w. R.last 0 us x tail w })
+      (λ x us o. end_reads more x us (λ vs less. let fewer : length us < length ts = eats F one ts x us (λ vs w. never x vs w) o in h vs (omega arith)))
+      (one ts) (item ts))
+
+  pub series_reads : (one : List Symbol → Reply X) → ((x : X) (us : List Symbol) → F [] x us → ⊥) → ((us : List Symbol) → ReadsAt F one us (one us)) → (ts : List Symbol) → ReadsAt Q (series S one) ts (series S one ts)
+  series_reads one never item ts = steps_read Q (series_by S one) (series_local S one (eats_of F one never item)) (λ more us h. by_reads one more us never item h) ts
+
+pub row_reads : {X : Type 0} (closes : Symbol → Bool) (F : List Symbol → X → List Symbol → Type 0) (Q : List Symbol → List X → List Symbol → Type 0) → IsSeries (rows closes) F Q → (one : List Symbol → Reply X)
     → ((x : X) (us : List Symbol) → F [] x us → ⊥) → ((us : List Symbol) → ReadsAt F one us (one us)) → (ts : List Symbol) → ReadsAt Q (row closes one) ts (row closes one ts)
-row_reads closes K F Q R one never item ts = row_up closes K F Q R one never item (suc (length ts)) ts (omega arith)
+row_reads closes F Q R one never item ts = series_reads (rows closes) F Q R one never item ts
+
+-- ---- chains
+
+chain_end_same : {X Y : Type 0} (sep : Symbol → Bool) (single : X → Y) (cons : X → Y → Y) (f g : List Symbol → Reply Y) (x : X) (us : List Symbol) → ((vs : List Symbol) → length vs < length us → f vs ≡ g vs)
+    → chain_end sep single cons f x us ≡ chain_end sep single cons g x us
+chain_end_same sep single cons f g x us h =
+    choose_same sep (chain_more cons f x) (chain_more cons g x) (Ok (single x, us)) (Ok (single x, us)) us (λ vs less. ap (λ (m : Reply _). m >>= λ ys. Ok (cons x ys.0, ys.1)) (h vs less)) refl
+
+pub chain_local : {X Y : Type 0} (sep : Symbol → Bool) (single : X → Y) (cons : X → Y → Y) (one : List Symbol → Reply X) → Eats one → Local (chain_by sep single cons one)
+chain_local sep single cons one eats_one f g ts h =
+    bind_same (one ts) _ _ (λ z e. let less : length z.1 < length ts = eats_one ts z e in chain_end_same sep single cons f g z.0 z.1 (λ vs fewer. h vs (omega arith)))
+
+pub chain_is : {X Y : Type 0} (sep : Symbol → Bool) (single : X → Y) (cons : X → Y → Y) (one : List Symbol → Reply X) → Eats one → (ts : List Symbol) → chain sep single cons one ts ≡ chain_by sep single cons one (chain sep single cons one) ts
+chain_is sep single cons one eats_one ts = steps_is (chain_by sep single cons one) (chain_local sep single cons one eats_one) ts
+
+-- what a chain of F is
+pub record IsChain {X Y : Type 0} (sep : Symbol → Bool) (single : X → Y) (cons : X → Y → Y) (F : List Symbol → X → List Symbol → Type 0) (Q : List Symbol → Y → List Symbol → Type 0) : Type 0 where
+  pub between : Kind sep
+  pub one : (ts : List Symbol) (x : X) (rest : List Symbol) → F ts x rest → Q ts (single x) rest
+  pub more : (s : ℕ) (ts us : List Symbol) (x : X) (ys : Y) (rest : List Symbol) → F ts x (between.make s ∷ us) → Q us ys rest → Q ts (cons x ys) rest
+
+pub chain_reads : {X Y : Type 0} (sep : Symbol → Bool) (single : X → Y) (cons : X → Y → Y) (F : List Symbol → X → List Symbol → Type 0) (Q : List Symbol → Y → List Symbol → Type 0) → IsChain sep single cons F Q → (one : List Symbol → Reply X)
+    → ((x : X) (us : List Symbol) → F [] x us → ⊥) → ((us : List Symbol) → ReadsAt F one us (one us)) → (ts : List Symbol) → ReadsAt Q (chain sep single cons one) ts (chain sep single cons one ts)
+chain_reads sep single cons F Q R one never item ts =
+    steps_read Q (chain_by sep single cons one) (chain_local sep single cons one (eats_of F one never item))
+    (λ later us h. bind_reads F Q one (chain_end sep single cons later) us
+    (λ x. record { tokens = []; made = single x; stands = λ tail vs w. R.one vs x tail w })
+    (λ x vs o.
+    let fewer : length vs < length us = eats F one us x vs (λ ws w. never x ws w) o in
+    choose_reads_on sep (After F Q x) R.between (chain_more cons later x) (λ ws. Ok (single x, ws)) vs
+    (λ ws less. value_reads Q (Past R.between (After F Q x)) later (λ ys. cons x ys) ws (λ xs ys rest w s zs f. R.more s zs xs x ys rest f w) (later ws) (h ws (omega arith)))
+    (λ e. done_reads (After F Q x) (λ ws. Ok (single x, ws)) vs (single x) (λ tail ws w. R.one ws x tail w) (λ r e'. refl)))
+    (one us) (item us)) ts

@@ -12,7 +12,8 @@ use Rattle.go_syntax.specs.Decls.{IsImport, IsVarSpec, IsTypeSpec, IsGroup}
 use Rattle.go_syntax.specs.Files.{import_at, var_spec_at, type_spec_at, group_at, const_group_at, decl_more, decl_end, decl_at, import_step, top_step, some_semicolon, some_decl, no_decl, import_decl, top_decl, step_end}
 use Rattle.go_syntax.proofs.Viable.{ReadsAt}
 use Rattle.go_syntax.proofs.Rows.{past_shorter}
-use Rattle.go_syntax.proofs.Steps.{Local, steps_is, Any, decl_local_at}
+use Rattle.go_syntax.proofs.Steps.{Local, steps_is}
+use Rattle.go_syntax.proofs.Groups.{Any, decl_local_at}
 use Rattle.go_syntax.proofs.FileReads.{import_groups, var_groups, type_groups, ConstsAt, const_groups, import_local, top_local}
 use Rattle.go_syntax.proofs.Turns.{with_front}
 

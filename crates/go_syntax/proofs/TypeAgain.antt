@@ -1,220 +1,310 @@
 -- A type that is written is read again.
-use Rattle.std.proofs.Common.{◌≡◌, ℕ, zero, suc, ◌≤◌, ◌-◌, max, Bool, true, false, List, [], ◌∷◌, Option, None, Ok, refl, sym, subst, arith}
+use Rattle.std.proofs.Common.{◌≡◌, ℕ, zero, suc, ◌-◌, ◌≤◌, min, max, Bool, true, false, List, [], ◌∷◌, ◌++◌, map, Ok, refl, sym, ap, subst, arith}
 use Rattle.go_syntax.specs.declared.symbols.Symbol.{Symbol}
 use Rattle.go_syntax.specs.declared.symbols.Symbol.TheVariants as t
 use Rattle.go_syntax.specs.declared.symbols.Ident.{Ident}
-use Rattle.go_syntax.specs.declared.symbols.Span.{Span}
 use Rattle.go_syntax.specs.declared.tree.NameExpr.{NameExpr}
 use Rattle.go_syntax.specs.declared.tree.FieldExpr.{FieldExpr}
+use Rattle.go_syntax.specs.declared.tree.ParamExpr.{ParamExpr}
+use Rattle.go_syntax.specs.declared.tree.SigExpr.{SigExpr}
+use Rattle.go_syntax.specs.declared.tree.TermExpr.{TermExpr}
+use Rattle.go_syntax.specs.declared.tree.ElemExpr.{ElemExpr}
+use Rattle.go_syntax.specs.declared.tree.ElemExpr.TheVariants as elem
 use Rattle.go_syntax.specs.declared.tree.TypeExpr.{TypeExpr}
 use Rattle.go_syntax.specs.declared.tree.TypeExpr.TheVariants as y
-use Rattle.go_syntax.specs.Reading.{too_deep, peek, starts, is_dot, is_comma, is_arrow, is_close_bracket, is_close_brace, row}
-use Rattle.go_syntax.specs.Names.{plain, IsTypeName, own, of_package, IsNames, one, more, IsTag, none, some, tag_at, dotted}
+use Rattle.go_syntax.specs.Reading.{Reply, ◌>>=◌, start_of, starts, begins_type, is_arrow, is_bar, is_ident, is_open_paren, is_close_bracket, is_semicolon, is_close_brace, too_deep, Fit, fits}
+use Rattle.go_syntax.specs.Names.{plain, selected, own, of_package, dotted}
 use Rattle.go_syntax.specs.Grammar as g
-use Rattle.go_syntax.specs.Grammar.{named, field, IsType, IsField, IsFields}
-use Rattle.go_syntax.specs.Types.{with_type, paren_end, array_end, array_by, map_end, tagged, shared_by, more_names, lone_by, shows_embedded, begins_type, no_type, field_by, type_by, type_at}
+use Rattle.go_syntax.specs.Grammar.{named, field, param, IsType, IsField, IsFields, IsParam, IsParams, IsSig, IsTerm, IsTerms, IsUnion, IsElem, IsElems}
+use Rattle.go_syntax.specs.Params.{params_row, bare, shows_types, param_at, params_from, sig_at}
+use Rattle.go_syntax.specs.Elements.{term_at, terms_at, shows_elem, union_at, elem_at, elems_at}
 use Rattle.go_syntax.specs.declared.expressions.Operand.{Operand}
 use Rattle.go_syntax.specs.Operands.{expr_at}
+use Rattle.go_syntax.specs.Types.{with_type, paren_end, array_end, array_by, map_end, no_type, field_by, fields_at, type_by, readers, type_at, lower_at}
+use Rattle.go_syntax.proofs.Agreeing.{Agrees, agrees_bind, agrees_as, agrees_from, sized, fit_at, choose_other, name_again, series_none, series_once, series_twice, less_none, less_last, less_more}
+use Rattle.go_syntax.proofs.Follows.{Free, free_dot, free_paren, type_begins, sig_opens, field_no_close, param_no_close, elem_no_brace, ends_field, end_free, end_no_bar, end_shown, tag_free}
+use Rattle.go_syntax.proofs.FieldAgain.{shared_again, embedded_again, star_again}
+use Rattle.go_syntax.proofs.ParamAgain as p
+use Rattle.go_syntax.proofs.ParamAgain.{found, bare_height}
+use Rattle.go_syntax.proofs.ElemAgain as e
 use Rattle.go_syntax.proofs.ExprAgain.{expr_no_bracket, expr_again}
 use Rattle.go_syntax.proofs.TypeReads.{field_eats}
-use Rattle.go_syntax.proofs.Agreeing.{Agrees, agrees_bind, choose_other, plain_again, name_again, names_again, row_none, row_last, row_more}
 
--- ---- what comes next
+-- ---- types, where the types inside are read again
 
--- nothing that would go on with a type
-abbrev pub Free : List Symbol → Type 0
-Free rest = starts is_dot rest ≡ false
+-- where parts are read again, whatever number of nodes is allowed
+abbrev Again : ℕ → List Symbol → TypeExpr → List Symbol → Type 0
+Again m ts ty rest = (n : ℕ) → Agrees n m (sized n m ty) rest (type_at n ts)
 
--- a field is at its end
-abbrev ends_field : Symbol → Bool
-ends_field (t.Semicolon s) = true
-ends_field (t.CloseBrace s) = true
-ends_field _ = false
-
-ends_free : (k : Symbol) → ends_field k ≡ true → is_dot k ≡ false
-ends_free (t.Semicolon s) e = refl
-ends_free (t.CloseBrace s) e = refl
-ends_free _ e = absurd cc
-
-ends_no_comma : (k : Symbol) → ends_field k ≡ true → is_comma k ≡ false
-ends_no_comma (t.Semicolon s) e = refl
-ends_no_comma (t.CloseBrace s) e = refl
-ends_no_comma _ e = absurd cc
-
-ends_embedded : (k : Symbol) → ends_field k ≡ true → shows_embedded k ≡ true
-ends_embedded (t.Semicolon s) e = refl
-ends_embedded (t.CloseBrace s) e = refl
-ends_embedded _ e = absurd cc
-
-ends_tag : (k : Symbol) (ts : List Symbol) → ends_field k ≡ true → tag_at (k ∷ ts) ≡ Ok (None, k ∷ ts)
-ends_tag (t.Semicolon s) ts e = refl
-ends_tag (t.CloseBrace s) ts e = refl
-ends_tag _ ts e = absurd cc
-
-pub type_no_comma : (k : Symbol) → begins_type k ≡ true → is_comma k ≡ false
-type_no_comma (t.Comma c) e = absurd cc
-type_no_comma _ e = refl
-
-type_not_embedded : (k : Symbol) → begins_type k ≡ true → shows_embedded k ≡ false
-type_not_embedded (t.Dot c) e = absurd cc
-type_not_embedded (t.Semicolon c) e = absurd cc
-type_not_embedded (t.CloseBrace c) e = absurd cc
-type_not_embedded (t.Text c) e = absurd cc
-type_not_embedded _ e = refl
-
--- what the next token is not, from what it is
-pub next_so : (is other : Symbol → Bool) (a b : Bool) (ts : List Symbol) → ((k : Symbol) → is k ≡ a → other k ≡ b) → (false ≡ a → false ≡ b) → starts is ts ≡ a → starts other ts ≡ b
-next_so is other a b [] h e s = e s
-next_so is other a b (k ∷ ts) h e s = h k s
-
--- ---- names and tags of a field
-
-none_again : (r : List Symbol) → starts ends_field r ≡ true → tag_at r ≡ Ok (None, r)
-none_again [] e = absurd cc
-none_again (k ∷ us) e = ends_tag k us e
-
-tag_again : (ts : List Symbol) (tag : Option Span) (rest : List Symbol) → IsTag ts tag rest → starts ends_field rest ≡ true → tag_at ts ≡ Ok (tag, rest)
-tag_again ts tag rest (none r) e = none_again r e
-tag_again ts tag rest (some s r) e = refl
-
-tag_free : (ts : List Symbol) (tag : Option Span) (rest : List Symbol) → IsTag ts tag rest → starts ends_field rest ≡ true → Free ts
-tag_free ts tag rest (none r) e = next_so ends_field is_dot true false r ends_free (λ h. refl) e
-tag_free ts tag rest (some s r) e = refl
-
-tag_no_comma : (ts : List Symbol) (tag : Option Span) (rest : List Symbol) → IsTag ts tag rest → starts ends_field rest ≡ true → starts is_comma ts ≡ false
-tag_no_comma ts tag rest (none r) e = next_so ends_field is_comma true false r ends_no_comma (λ h. refl) e
-tag_no_comma ts tag rest (some s r) e = refl
-
-tag_embedded : (ts : List Symbol) (tag : Option Span) (rest : List Symbol) → IsTag ts tag rest → starts ends_field rest ≡ true → starts shows_embedded ts ≡ true
-tag_embedded ts tag rest (none r) e = next_so ends_field shows_embedded true true r ends_embedded (λ h. h) e
-tag_embedded ts tag rest (some s r) e = refl
-
-tagged_again : (n m : ℕ) (names : List Ident) (ty : TypeExpr) (at : ℕ) (ts : List Symbol) (tag : Option Span) (rest : List Symbol) → IsTag ts tag rest → starts ends_field rest ≡ true → m ≤ n → Agrees n m (field names ty tag at) rest (tagged names ty at ts)
-tagged_again n m names ty at ts tag rest w e f = rw (tag_again ts tag rest w e) (refl, refl, f)
-
--- ---- types
-
-pub type_begins : (m : ℕ) (ts : List Symbol) (ty : TypeExpr) (rest : List Symbol) → IsType m ts ty rest → starts begins_type ts ≡ true
-type_begins m ts ty rest (g.name us x r (own i r')) = refl
-type_begins m ts ty rest (g.name us x r (of_package p d i r')) = refl
-type_begins m ts ty rest (g.paren n at c us z r a) = refl
-type_begins m ts ty rest (g.pointer n at us z r a) = refl
-type_begins m ts ty rest (g.slice n at c us z r a) = refl
-type_begins m ts ty rest (g.array i n at c us x vs z r a d) = refl
-type_begins m ts ty rest (g.map_of i n at b c us key vs z r a d) = refl
-type_begins m ts ty rest (g.both_ways n at us z r e a) = refl
-type_begins m ts ty rest (g.send_only n at b us z r a) = refl
-type_begins m ts ty rest (g.receive_only n at b us z r a) = refl
-type_begins m ts ty rest (g.struct n at b us fs r a) = refl
-
-named_again : (n : ℕ) (i : Ident) (us : List Symbol) (x : NameExpr) (rest : List Symbol) → dotted i us ≡ Ok (x, rest) → Agrees n 1 (named x) rest (type_at n (t.Ident i ∷ us))
-unfolding type_at
+named_again : (n : ℕ) (i : Ident) (us : List Symbol) (x : NameExpr) (rest : List Symbol) → dotted i us ≡ Ok (x, rest) → Agrees n 1 (sized n 1 (named x)) rest (type_at n (t.Ident i ∷ us))
+unfolding readers
 named_again zero i us x rest d = omega arith
-named_again (suc n) i us x rest d = rw d (refl, refl, omega arith)
+named_again (suc n) i us x rest d = let less : n ≡ suc n - 1 = omega arith in rw d (ap (fit_at (named x)) less, refl, omega arith)
 
 -- one type more round a type
-wrap_again : (n m : ℕ) (ty : TypeExpr) (rest : List Symbol) (make : TypeExpr → TypeExpr) (ts us : List Symbol) → no_type ts ≡ too_deep ts
-    → ((l : ℕ) → type_by l (type_at l) ts ≡ with_type (type_at l) make us) → ((l : ℕ) → Agrees l m ty rest (type_at l us)) → Agrees n (suc m) (make ty) rest (type_at n ts)
-unfolding type_at
-wrap_again zero m ty rest make ts us z e h = rw z (omega arith)
-wrap_again (suc n) m ty rest make ts us z e h =
-    rw (e n) (agrees_bind n m ty rest (suc n) (suc m) (make ty) rest (type_at n us) (λ w vs. Ok (make w, vs)) (h n) (λ d. omega arith) (λ f. (refl, refl, omega arith)))
+wrap_again : (n m : ℕ) (ty : TypeExpr) (rest : List Symbol) (make : TypeExpr → TypeExpr) (ts us : List Symbol) → no_type ts ≡ too_deep ts → ((l : ℕ) → type_by l (type_at l) (lower_at l) ts ≡ with_type (type_at l) make us) → Again m us ty rest
+    → Agrees n (suc m) (sized n (suc m) (make ty)) rest (type_at n ts)
+unfolding readers
+wrap_again zero m ty rest make ts us z h a = rw z (omega arith)
+wrap_again (suc n) m ty rest make ts us z h a =
+    let less : n - m ≡ suc n - suc m = omega arith in
+    rw (h n) (agrees_bind n m (sized n m ty) rest (suc n) (suc m) (sized (suc n) (suc m) (make ty)) rest (type_at n us) (λ w vs. Ok ((make w.0, w.1), vs)) (a n) (λ d. omega arith) (λ f. (ap (fit_at (make ty)) less, refl, omega arith)))
 
-paren_again : (n m at c : ℕ) (ts : List Symbol) (ty : TypeExpr) (rest : List Symbol) → ((l : ℕ) → Agrees l m ty (t.CloseParen c ∷ rest) (type_at l ts)) → Agrees n (suc m) (y.Paren ty at) rest (type_at n (t.OpenParen at ∷ ts))
-unfolding type_at
+paren_again : (n m at c : ℕ) (ts : List Symbol) (ty : TypeExpr) (rest : List Symbol) → Again m ts ty (t.CloseParen c ∷ rest) → Agrees n (suc m) (sized n (suc m) (y.Paren ty at)) rest (type_at n (t.OpenParen at ∷ ts))
+unfolding readers
 paren_again zero m at c ts ty rest h = omega arith
 paren_again (suc n) m at c ts ty rest h =
-    agrees_bind n m ty (t.CloseParen c ∷ rest) (suc n) (suc m) (y.Paren ty at) rest (type_at n ts) (paren_end at) (h n) (λ d. omega arith) (λ f. (refl, refl, omega arith))
+    let less : n - m ≡ suc n - suc m = omega arith in
+    agrees_bind n m (sized n m ty) (t.CloseParen c ∷ rest) (suc n) (suc m) (sized (suc n) (suc m) (y.Paren ty at)) rest (type_at n ts) (paren_end at) (h n) (λ d. omega arith) (λ f. (ap (fit_at (y.Paren ty at)) less, refl, omega arith))
 
-array_again : (n m j at c : ℕ) (ts : List Symbol) (x : Operand) (us : List Symbol) (ty : TypeExpr) (rest : List Symbol) → starts is_close_bracket ts ≡ false → ((l : ℕ) → Agrees l m (x, l - m) (t.CloseBracket c ∷ us) (expr_at l ts))
-    → ((l : ℕ) → Agrees l j ty rest (type_at l us)) → Agrees n (suc (max m j)) (y.Array x.expr ty at) rest (type_at n (t.OpenBracket at ∷ ts))
-unfolding type_at
+array_again : (n m j at c : ℕ) (ts : List Symbol) (x : Operand) (us : List Symbol) (ty : TypeExpr) (rest : List Symbol) → starts is_close_bracket ts ≡ false → ((l : ℕ) → Agrees l m (x, l - m) (t.CloseBracket c ∷ us) (expr_at l ts)) → Again j us ty rest
+    → Agrees n (suc (max m j)) (sized n (suc (max m j)) (y.Array x.expr ty at)) rest (type_at n (t.OpenBracket at ∷ ts))
+unfolding readers
 array_again zero m j at c ts x us ty rest e h k = omega arith
 array_again (suc n) m j at c ts x us ty rest e h k =
+    let less : min (n - m) (n - j) ≡ suc n - suc (max m j) = omega arith in
     rw (choose_other is_close_bracket ts (with_type (type_at n) (λ z. y.Slice z at)) (array_by n (type_at n) at ts) e)
-    (agrees_bind n m (x, n - m) (t.CloseBracket c ∷ us) (suc n) (suc (max m j)) (y.Array x.expr ty at) rest (expr_at n ts) (λ z vs. array_end (type_at n) at (z.0).expr vs) (h n) (λ d. omega arith)
-    (λ f. agrees_bind n j ty rest (suc n) (suc (max m j)) (y.Array x.expr ty at) rest (type_at n us) (λ w vs. Ok (y.Array x.expr w at, vs)) (k n) (λ d. omega arith) (λ w. (refl, refl, omega arith))))
+    (agrees_bind n m (x, n - m) (t.CloseBracket c ∷ us) (suc n) (suc (max m j)) (sized (suc n) (suc (max m j)) (y.Array x.expr ty at)) rest (expr_at n ts) (array_end (type_at n) at) (h n) (λ d. omega arith)
+    (λ f. agrees_bind n j (sized n j ty) rest (suc n) (suc (max m j)) (sized (suc n) (suc (max m j)) (y.Array x.expr ty at)) rest (type_at n us) (λ w vs. Ok ((y.Array x.expr w.0 at, min (n - m) w.1), vs)) (k n) (λ d. omega arith)
+    (λ w. (ap (fit_at (y.Array x.expr ty at)) less, refl, omega arith))))
 
-map_again : (n m j at b c : ℕ) (ts : List Symbol) (key : TypeExpr) (us : List Symbol) (ty : TypeExpr) (rest : List Symbol) → ((l : ℕ) → Agrees l m key (t.CloseBracket c ∷ us) (type_at l ts)) → ((l : ℕ) → Agrees l j ty rest (type_at l us))
-    → Agrees n (suc (max m j)) (y.MapOf key ty at) rest (type_at n (t.Map at ∷ t.OpenBracket b ∷ ts))
-unfolding type_at
+map_again : (n m j at b c : ℕ) (ts : List Symbol) (key : TypeExpr) (us : List Symbol) (ty : TypeExpr) (rest : List Symbol) → Again m ts key (t.CloseBracket c ∷ us) → Again j us ty rest
+    → Agrees n (suc (max m j)) (sized n (suc (max m j)) (y.MapOf key ty at)) rest (type_at n (t.Map at ∷ t.OpenBracket b ∷ ts))
+unfolding readers
 map_again zero m j at b c ts key us ty rest h k = omega arith
 map_again (suc n) m j at b c ts key us ty rest h k =
-    agrees_bind n m key (t.CloseBracket c ∷ us) (suc n) (suc (max m j)) (y.MapOf key ty at) rest (type_at n ts) (map_end (type_at n) at) (h n) (λ d. omega arith)
-    (λ f. agrees_bind n j ty rest (suc n) (suc (max m j)) (y.MapOf key ty at) rest (type_at n us) (λ w vs. Ok (y.MapOf key w at, vs)) (k n) (λ d. omega arith) (λ w. (refl, refl, omega arith)))
+    let less : min (n - m) (n - j) ≡ suc n - suc (max m j) = omega arith in
+    agrees_bind n m (sized n m key) (t.CloseBracket c ∷ us) (suc n) (suc (max m j)) (sized (suc n) (suc (max m j)) (y.MapOf key ty at)) rest (type_at n ts) (map_end (type_at n) at) (h n) (λ d. omega arith)
+    (λ f. agrees_bind n j (sized n j ty) rest (suc n) (suc (max m j)) (sized (suc n) (suc (max m j)) (y.MapOf key ty at)) rest (type_at n us) (λ w vs. Ok ((y.MapOf key w.0 at, min (n - m) w.1), vs)) (k n) (λ d. omega arith)
+    (λ w. (ap (fit_at (y.MapOf key ty at)) less, refl, omega arith)))
 
-struct_again : (n m at b : ℕ) (ts : List Symbol) (fs : List FieldExpr) (rest : List Symbol) → ((l : ℕ) → Agrees l m fs rest (row is_close_brace (field_by l (type_at l)) ts)) → Agrees n (suc m) (y.Struct fs at) rest (type_at n (t.Struct at ∷ t.OpenBrace b ∷ ts))
-unfolding type_at
-struct_again zero m at b ts fs rest h = omega arith
-struct_again (suc n) m at b ts fs rest h =
-    agrees_bind n m fs rest (suc n) (suc m) (y.Struct fs at) rest (row is_close_brace (field_by n (type_at n)) ts) (λ w vs. Ok (y.Struct w at, vs)) (h n) (λ d. omega arith) (λ f. (refl, refl, omega arith))
+-- a type round a list of things
+round_again : {X : Type 0} (n m : ℕ) (xs : X) (rest : List Symbol) (make : X → TypeExpr) (ts us : List Symbol) (read : ℕ → List Symbol → Reply (Fit X)) → no_type ts ≡ too_deep ts
+    → ((l : ℕ) → type_by l (type_at l) (lower_at l) ts ≡ (read l us >>= λ z. Ok ((make z.0.0, z.0.1), z.1))) → ((l : ℕ) → Agrees l m (sized l m xs) rest (read l us)) → Agrees n (suc m) (sized n (suc m) (make xs)) rest (type_at n ts)
+unfolding readers
+round_again zero m xs rest make ts us read z h a = rw z (omega arith)
+round_again (suc n) m xs rest make ts us read z h a =
+    let less : n - m ≡ suc n - suc m = omega arith in
+    rw (h n) (agrees_bind n m (sized n m xs) rest (suc n) (suc m) (sized (suc n) (suc m) (make xs)) rest (read n us) (λ w vs. Ok ((make w.0, w.1), vs)) (a n) (λ d. omega arith) (λ f. (ap (fit_at (make xs)) less, refl, omega arith)))
 
--- ---- fields
+-- ---- rows of fields
 
-typed_again : (n m : ℕ) (names : List Ident) (at : ℕ) (us : List Symbol) (ty : TypeExpr) (vs : List Symbol) (tag : Option Span) (rest : List Symbol) → Agrees n m ty vs (type_at n us) → IsTag vs tag rest → starts ends_field rest ≡ true
-    → Agrees n m (field names ty tag at) rest (shared_by (type_at n) names at us)
-typed_again n m names at us ty vs tag rest h w e =
-    agrees_bind n m ty vs n m (field names ty tag at) rest (type_at n us) (λ z ws. tagged names z at ws) h (λ d. d) (λ f. tagged_again n m names ty at vs tag rest w e f)
+fields_none : (n c : ℕ) (rest : List Symbol) → Agrees n 0 (sized n 0 []) rest (fields_at n (type_at n) (t.CloseBrace c ∷ rest))
+fields_none n c rest = agrees_as n 0 (fit_at [] n) (sized n 0 []) rest (fields_at n (type_at n) (t.CloseBrace c ∷ rest)) (less_none n) (series_none (fits n is_semicolon is_close_brace) (field_by n (type_at n)) (field_eats n) n (t.CloseBrace c) rest refl)
 
--- after a first identifier and no comma
-first_opens : (n : ℕ) (i : Ident) (us : List Symbol) → starts is_comma us ≡ false → field_by n (type_at n) (t.Ident i ∷ us) ≡ peek shows_embedded us (lone_by n i us) (shared_by (type_at n) (i ∷ []) i.start us)
-first_opens n i us e = choose_other is_comma us (more_names (type_at n) i) (peek shows_embedded us (lone_by n i us) (shared_by (type_at n) (i ∷ []) i.start us)) e
+fields_last : (n m : ℕ) (ts : List Symbol) (x : FieldExpr) (c : ℕ) (rest : List Symbol) → starts is_close_brace ts ≡ false → Agrees n m (sized n m x) (t.CloseBrace c ∷ rest) (field_by n (type_at n) ts) → Agrees n m (sized n m (x ∷ [])) rest (fields_at n (type_at n) ts)
+fields_last n m ts x c rest e h =
+    agrees_as n m (fit_at (x ∷ []) (min (n - m) n)) (sized n m (x ∷ [])) rest (fields_at n (type_at n) ts) (less_last n m (n - m) x refl)
+    (series_once (fits n is_semicolon is_close_brace) (field_by n (type_at n)) (field_eats n) n m ts (sized n m x) (t.CloseBrace c) rest e refl h)
 
-shared_again : (n m : ℕ) (i : Ident) (names : List Ident) (ts us : List Symbol) (ty : TypeExpr) (vs : List Symbol) (tag : Option Span) (rest : List Symbol) → IsNames ts (i ∷ names) us → starts begins_type us ≡ true
-    → Agrees n m ty vs (type_at n us) → IsTag vs tag rest → starts ends_field rest ≡ true → Agrees n m (field (i ∷ names) ty tag i.start) rest (field_by n (type_at n) ts)
-shared_again n m i names ts us ty vs tag rest (one j r) b h w e =
-    rw (first_opens n i us (next_so begins_type is_comma true false us type_no_comma (λ d. refl) b), next_so begins_type shows_embedded true false us type_not_embedded (λ d. refl) b)
-    (typed_again n m (i ∷ []) i.start us ty vs tag rest h w e)
-shared_again n m i names ts us ty vs tag rest (more j c ws ns r q) b h w e =
-    rw (names_again ws names us q (next_so begins_type is_comma true false us type_no_comma (λ d. refl) b))
-    (typed_again n m (i ∷ names) i.start us ty vs tag rest h w e)
+fields_more : (n m j : ℕ) (ts : List Symbol) (x : FieldExpr) (s : ℕ) (us : List Symbol) (xs : List FieldExpr) (rest : List Symbol) → starts is_close_brace ts ≡ false → Agrees n m (sized n m x) (t.Semicolon s ∷ us) (field_by n (type_at n) ts)
+    → Agrees n j (sized n j xs) rest (fields_at n (type_at n) us) → Agrees n (max m j) (sized n (max m j) (x ∷ xs)) rest (fields_at n (type_at n) ts)
+fields_more n m j ts x s us xs rest e h g =
+    agrees_as n (max m j) (fit_at (x ∷ xs) (min (n - m) (n - j))) (sized n (max m j) (x ∷ xs)) rest (fields_at n (type_at n) ts) (less_more n m j (n - m) x xs refl)
+    (series_twice (fits n is_semicolon is_close_brace) (field_by n (type_at n)) (field_eats n) n m j ts (sized n m x) (t.Semicolon s) us (sized n j xs) rest e refl refl refl h g)
 
-lone_again : (n : ℕ) (x : NameExpr) (i : Ident) (ws us : List Symbol) (tag : Option Span) (rest : List Symbol) → dotted i ws ≡ Ok (x, us) → starts is_comma ws ≡ false → starts shows_embedded ws ≡ true → IsTag us tag rest → starts ends_field rest ≡ true
-    → Agrees n 1 (field [] (named x) tag x.at) rest (field_by n (type_at n) (t.Ident i ∷ ws))
-lone_again zero x i ws us tag rest d c s w e = rw (first_opens zero i ws c, s) (omega arith)
-lone_again (suc n) x i ws us tag rest d c s w e = rw (first_opens (suc n) i ws c, s, d) (tagged_again (suc n) 1 [] (named x) x.at us tag rest w e (omega arith))
+-- ---- how a type begins
 
-embedded_again : (n : ℕ) (x : NameExpr) (ts us : List Symbol) (tag : Option Span) (rest : List Symbol) → IsTypeName ts x us → IsTag us tag rest → starts ends_field rest ≡ true → Agrees n 1 (field [] (named x) tag x.at) rest (field_by n (type_at n) ts)
-embedded_again n x ts us tag rest (own i r) w e =
-    lone_again n (plain i) i us us tag rest (plain_again i us (tag_free us tag rest w e)) (tag_no_comma us tag rest w e) (tag_embedded us tag rest w e) w e
-embedded_again n x ts us tag rest (of_package p d i r) w e = lone_again n x p (t.Dot d ∷ t.Ident i ∷ us) us tag rest refl refl refl w e
+data Opening : ℕ → List Symbol → TypeExpr → List Symbol → Type 0 where
+  lone : (i : Ident) (rest : List Symbol) → Opening 1 (t.Ident i ∷ rest) (named (plain i)) rest
+  of_other : (q : Ident) (d : ℕ) (i : Ident) (rest : List Symbol) → Opening 1 (t.Ident q ∷ t.Dot d ∷ t.Ident i ∷ rest) (named (selected q i)) rest
+  otherwise : (m : ℕ) (ts : List Symbol) (ty : TypeExpr) (rest : List Symbol) → starts is_ident ts ≡ false → starts begins_type ts ≡ true → Opening m ts ty rest
 
-star_again : (n at : ℕ) (x : NameExpr) (i : Ident) (ws us : List Symbol) (tag : Option Span) (rest : List Symbol) → dotted i ws ≡ Ok (x, us) → IsTag us tag rest → starts ends_field rest ≡ true
-    → Agrees n 2 (field [] (y.Pointer (named x) at) tag at) rest (field_by n (type_at n) (t.Star at ∷ t.Ident i ∷ ws))
-star_again zero at x i ws us tag rest d w e = omega arith
-star_again (suc zero) at x i ws us tag rest d w e = omega arith
-star_again (suc (suc n)) at x i ws us tag rest d w e = rw d (tagged_again (suc (suc n)) 2 [] (y.Pointer (named x) at) at us tag rest w e (omega arith))
+opening : (m : ℕ) (ts : List Symbol) (ty : TypeExpr) (rest : List Symbol) → IsType m ts ty rest → Opening m ts ty rest
+opening m ts ty rest (g.name us x r (own i r')) = lone i r
+opening m ts ty rest (g.name us x r (of_package q d i r')) = of_other q d i r
+opening m ts ty rest (g.paren n at c us z r a) = otherwise _ _ _ _ refl refl
+opening m ts ty rest (g.pointer n at us z r a) = otherwise _ _ _ _ refl refl
+opening m ts ty rest (g.slice n at c us z r a) = otherwise _ _ _ _ refl refl
+opening m ts ty rest (g.array i n at c us x vs z r a d) = otherwise _ _ _ _ refl refl
+opening m ts ty rest (g.map_of i n at b c us key vs z r a d) = otherwise _ _ _ _ refl refl
+opening m ts ty rest (g.both_ways n at us z r s a) = otherwise _ _ _ _ refl refl
+opening m ts ty rest (g.send_only n at b us z r a) = otherwise _ _ _ _ refl refl
+opening m ts ty rest (g.receive_only n at b us z r a) = otherwise _ _ _ _ refl refl
+opening m ts ty rest (g.struct n at b us fs r a) = otherwise _ _ _ _ refl refl
+opening m ts ty rest (g.func n at us s r a) = otherwise _ _ _ _ refl refl
+opening m ts ty rest (g.interface n at b us es r a) = otherwise _ _ _ _ refl refl
 
-field_no_close : (m : ℕ) (ts : List Symbol) (f : FieldExpr) (rest : List Symbol) → IsField m ts f rest → starts is_close_brace ts ≡ false
-field_no_close m ts f rest (g.shared n i names us vs ty ws tag r (one j r') w q) = refl
-field_no_close m ts f rest (g.shared n i names us vs ty ws tag r (more j c us' ns r' a) w q) = refl
-field_no_close m ts f rest (g.embedded x us vs tag r (own i r') q) = refl
-field_no_close m ts f rest (g.embedded x us vs tag r (of_package p d i r') q) = refl
-field_no_close m ts f rest (g.embedded_pointer at x us vs tag r a q) = refl
+tall : (m : ℕ) (ts : List Symbol) (ty : TypeExpr) (rest : List Symbol) → IsType m ts ty rest → 1 ≤ m
+tall m ts ty rest (g.name us x r a) = omega arith
+tall m ts ty rest (g.paren n at c us z r a) = omega arith
+tall m ts ty rest (g.pointer n at us z r a) = omega arith
+tall m ts ty rest (g.slice n at c us z r a) = omega arith
+tall m ts ty rest (g.array i n at c us x vs z r a d) = omega arith
+tall m ts ty rest (g.map_of i n at b c us key vs z r a d) = omega arith
+tall m ts ty rest (g.both_ways n at us z r s a) = omega arith
+tall m ts ty rest (g.send_only n at b us z r a) = omega arith
+tall m ts ty rest (g.receive_only n at b us z r a) = omega arith
+tall m ts ty rest (g.struct n at b us fs r a) = omega arith
+tall m ts ty rest (g.func n at us s r a) = omega arith
+tall m ts ty rest (g.interface n at b us es r a) = omega arith
+
+-- ---- parameters that are types, where rows are read again
+
+-- where the whole is behind these identifiers
+abbrev Behinds : Bool → ℕ → List Ident → ℕ → List Symbol → List ParamExpr → List Symbol → Type 0
+Behinds v n names m ts xs rest = Agrees n (max (bare_height names) m) (sized n (max (bare_height names) m) (map bare names ++ xs)) rest (params_from v n (type_at n) names ts)
+
+shows_close : (v : Bool) (c : ℕ) → shows_types v (t.CloseParen c) ≡ true
+shows_close true c = refl
+shows_close false c = refl
+
+row_behind : (v : Bool) (n m : ℕ) (names : List Ident) (ts : List Symbol) (xs : List ParamExpr) (rest : List Symbol) → starts is_ident ts ≡ false → starts (shows_types v) ts ≡ true → Agrees n m (sized n m xs) rest (params_row false v n (type_at n) ts)
+    → Behinds v n names m ts xs rest
+row_behind v n m names ts xs rest i s h =
+    agrees_from n (max (bare_height names) m) (sized n (max (bare_height names) m) (map bare names ++ xs)) rest _ (params_from v n (type_at n) names ts) (p.from_other v n (type_at n) names ts i) (p.after_again v n m names ts xs rest s h)
+
+none_behind : (v : Bool) (n m : ℕ) (ts : List Symbol) (xs : List ParamExpr) (rest : List Symbol) → Behinds v n [] m ts xs rest → Agrees n m (sized n m xs) rest (params_from v n (type_at n) [] ts)
+none_behind v n m ts xs rest h = let o : max 0 m ≡ m = omega arith in subst (λ j. Agrees n j (sized n j xs) rest (params_from v n (type_at n) [] ts)) o h
+
+begins_shown : (v : Bool) (ts : List Symbol) → starts begins_type ts ≡ true → starts (shows_types v) ts ≡ true
+begins_shown v [] e = e
+begins_shown v (k ∷ ts) e = p.shows_so v k e
+
+last_types : (v : Bool) (n m c : ℕ) (names : List Ident) (ts : List Symbol) (ty : TypeExpr) (start : ℕ) (rest : List Symbol) → Opening m ts ty (t.CloseParen c ∷ rest) → start ≡ start_of ts → Agrees n m (sized n m (param [] false ty start ∷ [])) rest (params_row false v n (type_at n) ts)
+    → Behinds v n names m ts (param [] false ty start ∷ []) rest
+last_types v n m c names ts ty start rest (lone i r) e h =
+    rw e (p.types_again v n 0 names i (t.CloseParen c ∷ rest) (plain i) (t.CloseParen c ∷ rest) (param [] false (named (plain i)) i.start ∷ []) rest refl refl (λ le. p.rest_last false v n 1 false (param [] false (named (plain i)) i.start) c rest le))
+last_types v n m c names ts ty start rest (of_other q d i r) e h =
+    rw e (p.types_again v n 0 names q (t.Dot d ∷ t.Ident i ∷ t.CloseParen c ∷ rest) (selected q i) (t.CloseParen c ∷ rest) (param [] false (named (selected q i)) q.start ∷ []) rest refl refl (λ le. p.rest_last false v n 1 false (param [] false (named (selected q i)) q.start) c rest le))
+last_types v n m c names ts ty start rest (otherwise j us z r i b) e h = row_behind v n m names ts (param [] false ty start ∷ []) rest i (begins_shown v ts b) h
+
+more_types : (v : Bool) (n m j s : ℕ) (names : List Ident) (ts us : List Symbol) (ty : TypeExpr) (start : ℕ) (xs : List ParamExpr) (rest : List Symbol) → Opening m ts ty (t.Comma s ∷ us) → start ≡ start_of ts
+    → ((i : Ident) → Behinds v n (names ++ i ∷ []) j us xs rest) → Agrees n j (sized n j xs) rest (params_row false v n (type_at n) us) → Agrees n (max m j) (sized n (max m j) (param [] false ty start ∷ xs)) rest (params_row false v n (type_at n) ts)
+    → Behinds v n names (max m j) ts (param [] false ty start ∷ xs) rest
+more_types v n m j s names ts us ty start xs rest (lone i r) e later row whole = rw e (p.bare_again n j names i xs rest (params_from v n (type_at n) (names ++ i ∷ []) us) (later i))
+more_types v n m j s names ts us ty start xs rest (of_other q d i r) e later row whole =
+    rw e (p.types_again v n j names q (t.Dot d ∷ t.Ident i ∷ t.Comma s ∷ us) (selected q i) (t.Comma s ∷ us) (param [] false (named (selected q i)) q.start ∷ xs) rest refl refl (λ le. p.rest_more false v n 1 j (param [] false (named (selected q i)) q.start) s us xs rest le row))
+more_types v n m j s names ts us ty start xs rest (otherwise k vs z r i b) e later row whole = row_behind v n (max m j) names ts (param [] false ty start ∷ xs) rest i (begins_shown v ts b) whole
+
+-- ---- embedded types, where unions are read again
+
+-- what stands after an identifier that begins a union
+record Followed (m : ℕ) (us : List Symbol) : Type 0 where
+  no_paren : starts is_open_paren us ≡ false
+  shown : starts shows_elem us ≡ true
+  some : 1 ≤ m
+
+type_followed : (m : ℕ) (i : Ident) (us : List Symbol) (ty : TypeExpr) (rest : List Symbol) → IsType m (t.Ident i ∷ us) ty rest → starts is_open_paren rest ≡ false → starts shows_elem rest ≡ true → Followed m us
+type_followed m i us ty rest (g.name ts x r (own j r')) o s = record { no_paren = o; shown = s; some = omega arith }
+type_followed m i us ty rest (g.name ts x r (of_package q d j r')) o s = record { no_paren = refl; shown = refl; some = omega arith }
+
+term_followed : (m j : ℕ) (i : Ident) (us : List Symbol) (x : TermExpr) (b : ℕ) (rest : List Symbol) → IsTerm m (t.Ident i ∷ us) x (t.Bar b ∷ rest) → Followed (suc (max m j)) us
+term_followed m j i us x b rest (g.exactly n ts ty r a) = let w = type_followed n i us ty (t.Bar b ∷ rest) a refl refl in record { no_paren = w.no_paren; shown = w.shown; some = omega arith }
+
+union_followed : (m : ℕ) (i : Ident) (us : List Symbol) (ty : TypeExpr) (rest : List Symbol) → IsUnion m (t.Ident i ∷ us) ty rest → starts ends_field rest ≡ true → Followed m us
+union_followed m i us ty rest (g.alone n ts z r a) e = type_followed n i us z rest a (free_paren rest (end_free rest e)) (end_shown rest e)
+union_followed m i us ty rest (g.several k j b ts vs x xs r a c) e = term_followed k j i us x b vs a
+
+embeds_again : (n m : ℕ) (us : List Symbol) (ty : TypeExpr) (rest : List Symbol) → ((i : Ident) (vs : List Symbol) → us ≡ t.Ident i ∷ vs → Followed m vs) → Agrees n m (sized n m ty) rest (union_at n (type_at n) (lower_at n) us)
+    → Agrees n m (sized n m (elem.Embedded ty (start_of us))) rest (elem_at n (type_at n) (lower_at n) us)
+embeds_again n m [] ty rest w h = e.union_again_at n m [] ty rest h
+embeds_again n m (t.Ident i ∷ us) ty rest w h = let f = w i us refl in e.ident_again n m i us ty rest f.no_paren f.shown f.some h
+embeds_again n m (k ∷ us) ty rest w h = e.union_again_at n m (k ∷ us) ty rest h
+
+-- ---- everything
 
 mutual
-  pub type_again : (m : ℕ) (ts : List Symbol) (ty : TypeExpr) (rest : List Symbol) → IsType m ts ty rest → Free rest → (n : ℕ) → Agrees n m ty rest (type_at n ts)
-  type_again m ts ty rest (g.name us x r a) e n = let o = name_again us x r a e in subst (λ (vs : List Symbol). Agrees n 1 (named x) r (type_at n vs)) (sym o.2) (named_again n o.0 o.1 x r o.3)
-  type_again m ts ty rest (g.paren j at c us z r a) e n = paren_again n j at c us z r (type_again j us z (t.CloseParen c ∷ r) a refl)
-  type_again m ts ty rest (g.pointer j at us z r a) e n = wrap_again n j z r (λ w. y.Pointer w at) (t.Star at ∷ us) us refl (λ l. refl) (type_again j us z r a e)
-  type_again m ts ty rest (g.slice j at c us z r a) e n = wrap_again n j z r (λ w. y.Slice w at) (t.OpenBracket at ∷ t.CloseBracket c ∷ us) us refl (λ l. refl) (type_again j us z r a e)
-  type_again m ts ty rest (g.array i j at c us x vs z r a d) e n =
-      array_again n i j at c us x vs z r (expr_no_bracket i us x (t.CloseBracket c ∷ vs) a) (expr_again i us x (t.CloseBracket c ∷ vs) a refl (λ p. omega (arith, p))) (type_again j vs z r d e)
-  type_again m ts ty rest (g.map_of i j at b c us key vs z r a d) e n = map_again n i j at b c us key vs z r (type_again i us key (t.CloseBracket c ∷ vs) a refl) (type_again j vs z r d e)
-  type_again m ts ty rest (g.both_ways j at us z r s a) e n = wrap_again n j z r (λ w. y.Chan true true w at) (t.Chan at ∷ us) us refl (λ l. choose_other is_arrow us (with_type (type_at l) (λ w. y.Chan false true w at)) (with_type (type_at l) (λ w. y.Chan true true w at) us) s) (type_again j us z r a e)
-  type_again m ts ty rest (g.send_only j at b us z r a) e n = wrap_again n j z r (λ w. y.Chan false true w at) (t.Chan at ∷ t.Arrow b ∷ us) us refl (λ l. refl) (type_again j us z r a e)
-  type_again m ts ty rest (g.receive_only j at b us z r a) e n = wrap_again n j z r (λ w. y.Chan true false w at) (t.Arrow at ∷ t.Chan b ∷ us) us refl (λ l. refl) (type_again j us z r a e)
-  type_again m ts ty rest (g.struct j at b us fs r a) e n = struct_again n j at b us fs r (fields_again j us fs r a)
+  pub type_again : (m : ℕ) (ts : List Symbol) (ty : TypeExpr) (rest : List Symbol) → IsType m ts ty rest → Free rest → (n : ℕ) → Agrees n m (sized n m ty) rest (type_at n ts)
+  type_again m ts ty rest (g.name us x r a) f n = let o = name_again us x r a (free_dot r f) in subst (λ (vs : List Symbol). Agrees n 1 (sized n 1 (named x)) r (type_at n vs)) (sym o.2) (named_again n o.0 o.1 x r o.3)
+  type_again m ts ty rest (g.paren j at c us z r a) f n = paren_again n j at c us z r (type_again j us z (t.CloseParen c ∷ r) a refl)
+  type_again m ts ty rest (g.pointer j at us z r a) f n = wrap_again n j z r (λ w. y.Pointer w at) (t.Star at ∷ us) us refl (λ l. refl) (type_again j us z r a f)
+  type_again m ts ty rest (g.slice j at c us z r a) f n = wrap_again n j z r (λ w. y.Slice w at) (t.OpenBracket at ∷ t.CloseBracket c ∷ us) us refl (λ l. refl) (type_again j us z r a f)
+  type_again m ts ty rest (g.array i j at c us x vs z r a d) f n =
+      array_again n i j at c us x vs z r (expr_no_bracket i us x (t.CloseBracket c ∷ vs) a) (expr_again i us x (t.CloseBracket c ∷ vs) a refl (λ p. omega (arith, p))) (type_again j vs z r d f)
+  type_again m ts ty rest (g.map_of i j at b c us key vs z r a d) f n = map_again n i j at b c us key vs z r (type_again i us key (t.CloseBracket c ∷ vs) a refl) (type_again j vs z r d f)
+  type_again m ts ty rest (g.both_ways j at us z r s a) f n =
+      wrap_again n j z r (λ w. y.Chan true true w at) (t.Chan at ∷ us) us refl (λ l. choose_other is_arrow us (with_type (type_at l) (λ w. y.Chan false true w at)) (with_type (type_at l) (λ w. y.Chan true true w at) us) s) (type_again j us z r a f)
+  type_again m ts ty rest (g.send_only j at b us z r a) f n = wrap_again n j z r (λ w. y.Chan false true w at) (t.Chan at ∷ t.Arrow b ∷ us) us refl (λ l. refl) (type_again j us z r a f)
+  type_again m ts ty rest (g.receive_only j at b us z r a) f n = wrap_again n j z r (λ w. y.Chan true false w at) (t.Arrow at ∷ t.Chan b ∷ us) us refl (λ l. refl) (type_again j us z r a f)
+  type_again m ts ty rest (g.struct j at b us fs r a) f n = round_again n j fs r (λ w. y.Struct w at) (t.Struct at ∷ t.OpenBrace b ∷ us) us (λ l. fields_at l (type_at l)) refl (λ l. refl) (fields_again j us fs r a)
+  type_again m ts ty rest (g.func j at us s r a) f n = round_again n j s r (λ w. y.Func w at) (t.Func at ∷ us) us (λ l. sig_at l (type_at l)) refl (λ l. refl) (sig_again j us s r a f)
+  type_again m ts ty rest (g.interface j at b us es r a) f n =
+      round_again n j es r (λ w. y.Interface w at) (t.Interface at ∷ t.OpenBrace b ∷ us) us (λ l. elems_at l (type_at l) (lower_at l)) refl (λ l. refl) (elems_again j us es r a)
 
-  pub field_again : (m : ℕ) (ts : List Symbol) (f : FieldExpr) (rest : List Symbol) → IsField m ts f rest → starts ends_field rest ≡ true → (n : ℕ) → Agrees n m f rest (field_by n (type_at n) ts)
-  field_again m ts f rest (g.shared j i names us vs z ws tag r a w q) e n = shared_again n j i names us vs z ws tag r a (type_begins j vs z ws w) (type_again j vs z ws w (tag_free ws tag r q e) n) q e
-  field_again m ts f rest (g.embedded x us vs tag r a q) e n = embedded_again n x us vs tag r a q e
-  field_again m ts f rest (g.embedded_pointer at x us vs tag r a q) e n =
-      let o = name_again us x vs a (tag_free vs tag r q e) in
-      subst (λ (ws : List Symbol). Agrees n 2 (field [] (y.Pointer (named x) at) tag at) r (field_by n (type_at n) (t.Star at ∷ ws))) (sym o.2) (star_again n at x o.0 o.1 vs tag r o.3 q e)
+  pub field_again : (m : ℕ) (ts : List Symbol) (x : FieldExpr) (rest : List Symbol) → IsField m ts x rest → starts ends_field rest ≡ true → (n : ℕ) → Agrees n m (sized n m x) rest (field_by n (type_at n) ts)
+  field_again m ts x rest (g.shared j i names us vs z ws tag r a w q) e n = shared_again n j i names us vs z ws tag r a (type_begins j vs z ws w) (type_again j vs z ws w (tag_free ws tag r q e) n) q e
+  field_again m ts x rest (g.embedded z us vs tag r a q) e n = embedded_again n z us vs tag r a q e
+  field_again m ts x rest (g.embedded_pointer at z us vs tag r a q) e n =
+      let o = name_again us z vs a (free_dot vs (tag_free vs tag r q e)) in
+      subst (λ (ws : List Symbol). Agrees n 2 (sized n 2 (field [] (y.Pointer (named z) at) tag at)) r (field_by n (type_at n) (t.Star at ∷ ws))) (sym o.2) (star_again n at z o.0 o.1 vs tag r o.3 q e)
 
-  pub fields_again : (m : ℕ) (ts : List Symbol) (fs : List FieldExpr) (rest : List Symbol) → IsFields m ts fs rest → (n : ℕ) → Agrees n m fs rest (row is_close_brace (field_by n (type_at n)) ts)
-  fields_again m ts fs rest (g.none c r) n = row_none is_close_brace (field_by n (type_at n)) (field_eats n) (t.CloseBrace c) r n refl
-  fields_again m ts fs rest (g.last j c us x r a) n = row_last is_close_brace (field_by n (type_at n)) (field_eats n) n j us x (t.CloseBrace c) r (field_no_close j us x (t.CloseBrace c ∷ r) a) refl (field_again j us x (t.CloseBrace c ∷ r) a refl n)
-  fields_again m ts fs rest (g.more i j s us vs x xs r a b) n =
-      row_more is_close_brace (field_by n (type_at n)) (field_eats n) n i j us x s vs xs r (field_no_close i us x (t.Semicolon s ∷ vs) a) refl (field_again i us x (t.Semicolon s ∷ vs) a refl n) (fields_again j vs xs r b n)
+  pub fields_again : (m : ℕ) (ts : List Symbol) (xs : List FieldExpr) (rest : List Symbol) → IsFields m ts xs rest → (n : ℕ) → Agrees n m (sized n m xs) rest (fields_at n (type_at n) ts)
+  fields_again m ts xs rest (g.none c r) n = fields_none n c r
+  fields_again m ts xs rest (g.last j c us x r a) n = fields_last n j us x c r (field_no_close j us x (t.CloseBrace c ∷ r) a) (field_again j us x (t.CloseBrace c ∷ r) a refl n)
+  fields_again m ts xs rest (g.more i j s us vs x ys r a b) n = fields_more n i j us x s vs ys r (field_no_close i us x (t.Semicolon s ∷ vs) a) (field_again i us x (t.Semicolon s ∷ vs) a refl n) (fields_again j vs ys r b n)
+
+  pub param_again : (w v f : Bool) (m : ℕ) (ts : List Symbol) (x : ParamExpr) (rest : List Symbol) → IsParam w v f m ts x rest → Free rest → (n : ℕ) → Agrees n m (found n m f x) rest (param_at w v (type_at n) ts)
+  param_again w v f m ts x rest (g.unnamed u j us z r a) e n = p.unnamed_again u n j us z r (type_begins j us z r a) (type_again j us z r a e n)
+  param_again w v f m ts x rest (g.sharing u j i names us vs z r a b) e n = p.sharing_again u n j i names us vs z r a (type_begins j vs z r b) (type_again j vs z r b e n)
+  param_again w v f m ts x rest (g.unnamed_rest j at us z r a) e n = p.param_type_again n j [] true at us z r (type_again j us z r a e n)
+  param_again w v f m ts x rest (g.named_rest j i at us z r a) e n = p.param_type_again n j (i ∷ []) true i.start us z r (type_again j us z r a e n)
+
+  pub params_again : (w v : Bool) (m : ℕ) (ts : List Symbol) (xs : List ParamExpr) (rest : List Symbol) → IsParams w v m ts xs rest → (n : ℕ) → Agrees n m (sized n m xs) rest (params_row w v n (type_at n) ts)
+  params_again w v m ts xs rest (g.no_param w' v' c r) n = p.row_none w v n c r
+  params_again w v m ts xs rest (g.last_param w' v' f j c us x r a) n = p.row_last w v n j f us x c r (param_no_close w v f j us x (t.CloseParen c ∷ r) a) (param_again w v f j us x (t.CloseParen c ∷ r) a refl n)
+  params_again w v m ts xs rest (g.more_params w' v' i j s us vs x ys r a b) n =
+      p.row_more w v n i j us x s vs ys r (param_no_close w v false i us x (t.Comma s ∷ vs) a) (param_again w v false i us x (t.Comma s ∷ vs) a refl n) (params_again w v j vs ys r b n)
+  params_again w v m ts xs rest (g.variadic_comma w' v' j s c us x r a) n =
+      p.row_final w v n j us x s c r (param_no_close w v true j us x (t.Comma s ∷ t.CloseParen c ∷ r) a) (param_again w v true j us x (t.Comma s ∷ t.CloseParen c ∷ r) a refl n)
+
+  pub types_from : (v : Bool) (m : ℕ) (ts : List Symbol) (xs : List ParamExpr) (rest : List Symbol) → IsParams false v m ts xs rest → (n : ℕ) (names : List Ident) → Behinds v n names m ts xs rest
+  types_from v m ts xs rest (g.no_param w u c r) n names = row_behind v n 0 names (t.CloseParen c ∷ r) [] r refl (shows_close v c) (p.row_none false v n c r)
+  types_from v m ts xs rest (g.last_param w u f j c us x r (g.unnamed u' k vs z r' a)) n names =
+      last_types v n k c names vs z (start_of vs) r (opening k vs z (t.CloseParen c ∷ r) a) refl (p.row_last false v n k false vs x c r (param_no_close false v false k vs x (t.CloseParen c ∷ r) (g.unnamed u' k vs z (t.CloseParen c ∷ r) a))
+      (p.unnamed_again v n k vs z (t.CloseParen c ∷ r) (type_begins k vs z (t.CloseParen c ∷ r) a) (type_again k vs z (t.CloseParen c ∷ r) a refl n)))
+  types_from v m ts xs rest (g.last_param w u f j c us x r (g.unnamed_rest k at vs z r' a)) n names =
+      row_behind true n k names (t.Ellipsis at ∷ vs) (x ∷ []) r refl refl (p.row_last false true n k true (t.Ellipsis at ∷ vs) x c r refl (p.param_type_again n k [] true at vs z (t.CloseParen c ∷ r) (type_again k vs z (t.CloseParen c ∷ r) a refl n)))
+  types_from v m ts xs rest (g.more_params w u i j s us ws x ys r (g.unnamed u' k vs z r' a) b) n names =
+      more_types v n k j s names vs ws z (start_of vs) ys r (opening k vs z (t.Comma s ∷ ws) a) refl (λ l. types_from v j ws ys r b n (names ++ l ∷ [])) (params_again false v j ws ys r b n)
+      (p.row_more false v n k j vs x s ws ys r (param_no_close false v false k vs x (t.Comma s ∷ ws) (g.unnamed u' k vs z (t.Comma s ∷ ws) a))
+      (p.unnamed_again v n k vs z (t.Comma s ∷ ws) (type_begins k vs z (t.Comma s ∷ ws) a) (type_again k vs z (t.Comma s ∷ ws) a refl n)) (params_again false v j ws ys r b n))
+  types_from v m ts xs rest (g.variadic_comma w u j s c us x r (g.unnamed_rest k at vs z r' a)) n names =
+      row_behind true n k names (t.Ellipsis at ∷ vs) (x ∷ []) r refl refl (p.row_final false true n k (t.Ellipsis at ∷ vs) x s c r refl (p.param_type_again n k [] true at vs z (t.Comma s ∷ t.CloseParen c ∷ r) (type_again k vs z (t.Comma s ∷ t.CloseParen c ∷ r) a refl n)))
+
+  pub names_from : (v : Bool) (m : ℕ) (ts : List Symbol) (xs : List ParamExpr) (rest : List Symbol) → IsParams true v m ts xs rest → (n : ℕ) → Agrees n m (sized n m xs) rest (params_from v n (type_at n) [] ts)
+  names_from v m ts xs rest (g.no_param w u c r) n = row_behind v n 0 [] (t.CloseParen c ∷ r) [] r refl (shows_close v c) (p.row_none false v n c r)
+  names_from v m ts xs rest (g.last_param w u f j c us x r (g.sharing u' k i names vs ws z r' a b)) n =
+      p.shared_first v n k k [] (i ∷ names) vs ws (t.CloseParen c ∷ r) z (x ∷ []) r a (type_begins k ws z (t.CloseParen c ∷ r) b) (type_again k ws z (t.CloseParen c ∷ r) b refl n) (omega arith) (λ le. p.rest_last true v n k false x c r le)
+  names_from v m ts xs rest (g.last_param w u f j c us x r (g.named_rest k i at vs z r' a)) n =
+      p.first_again true n k k true x (t.Ellipsis at ∷ vs) (t.CloseParen c ∷ r) (x ∷ []) r [] i refl (p.param_type_again n k (i ∷ []) true i.start vs z (t.CloseParen c ∷ r) (type_again k vs z (t.CloseParen c ∷ r) a refl n)) (omega arith) (λ le. p.rest_last true true n k true x c r le)
+  names_from v m ts xs rest (g.more_params w u l j s us qs x ys r (g.sharing u' k i names vs ws z r' a b) d) n =
+      p.shared_first v n k (max k j) [] (i ∷ names) vs ws (t.Comma s ∷ qs) z (x ∷ ys) r a (type_begins k ws z (t.Comma s ∷ qs) b) (type_again k ws z (t.Comma s ∷ qs) b refl n) (omega arith) (λ le. p.rest_more true v n k j x s qs ys r le (params_again true v j qs ys r d n))
+  names_from v m ts xs rest (g.variadic_comma w u j s c us x r (g.named_rest k i at vs z r' a)) n =
+      p.first_again true n k k true x (t.Ellipsis at ∷ vs) (t.Comma s ∷ t.CloseParen c ∷ r) (x ∷ []) r [] i refl (p.param_type_again n k (i ∷ []) true i.start vs z (t.Comma s ∷ t.CloseParen c ∷ r) (type_again k vs z (t.Comma s ∷ t.CloseParen c ∷ r) a refl n)) (omega arith)
+      (λ le. p.rest_final true true n k x s c r le)
+
+  pub sig_again : (m : ℕ) (ts : List Symbol) (s : SigExpr) (rest : List Symbol) → IsSig m ts s rest → Free rest → (n : ℕ) → Agrees n m (sized n m s) rest (sig_at n (type_at n) ts)
+  sig_again m ts s rest (g.no_result true j at us ps r a) f n = p.no_result_again n j at us ps r f (names_from true j us ps r a n)
+  sig_again m ts s rest (g.no_result false j at us ps r a) f n = p.no_result_again n j at us ps r f (none_behind true n j us ps r (types_from true j us ps r a n []))
+  sig_again m ts s rest (g.results true true i j at o us vs ps rs r a b) f n = p.results_again n i j at o us vs ps rs r (names_from true i us ps (t.OpenParen o ∷ vs) a n) (names_from false j vs rs r b n)
+  sig_again m ts s rest (g.results true false i j at o us vs ps rs r a b) f n = p.results_again n i j at o us vs ps rs r (names_from true i us ps (t.OpenParen o ∷ vs) a n) (none_behind false n j vs rs r (types_from false j vs rs r b n []))
+  sig_again m ts s rest (g.results false true i j at o us vs ps rs r a b) f n = p.results_again n i j at o us vs ps rs r (none_behind true n i us ps (t.OpenParen o ∷ vs) (types_from true i us ps (t.OpenParen o ∷ vs) a n [])) (names_from false j vs rs r b n)
+  sig_again m ts s rest (g.results false false i j at o us vs ps rs r a b) f n = p.results_again n i j at o us vs ps rs r (none_behind true n i us ps (t.OpenParen o ∷ vs) (types_from true i us ps (t.OpenParen o ∷ vs) a n [])) (none_behind false n j vs rs r (types_from false j vs rs r b n []))
+  sig_again m ts s rest (g.result true i j at us vs ps z r a o b) f n = p.result_again n i j at us vs ps z r (names_from true i us ps vs a n) o (type_begins j vs z r b) (type_again j vs z r b f n)
+  sig_again m ts s rest (g.result false i j at us vs ps z r a o b) f n = p.result_again n i j at us vs ps z r (none_behind true n i us ps vs (types_from true i us ps vs a n [])) o (type_begins j vs z r b) (type_again j vs z r b f n)
+
+  pub term_again : (m : ℕ) (ts : List Symbol) (x : TermExpr) (rest : List Symbol) → IsTerm m ts x rest → Free rest → (n : ℕ) → Agrees n m (sized n m x) rest (term_at (type_at n) ts)
+  term_again m ts x rest (g.exactly j us z r a) f n = e.term_plain (type_at n) n j us z r (type_begins j us z r a) (type_again j us z r a f n)
+  term_again m ts x rest (g.approximately j at us z r a) f n = e.term_tilde (type_at n) n j at us z r (type_again j us z r a f n)
+
+  pub terms_again : (m : ℕ) (ts : List Symbol) (xs : List TermExpr) (rest : List Symbol) → IsTerms m ts xs rest → starts is_bar rest ≡ false → Free rest → (n : ℕ) → Agrees n m (sized n m xs) rest (terms_at (type_at n) ts)
+  terms_again m ts xs rest (g.one_term j us x r a) b f n = e.terms_one n j us x r b (term_again j us x r a f n)
+  terms_again m ts xs rest (g.more_terms i j k us vs x ys r a c) b f n = e.terms_more n i j k us vs x ys r (term_again i us x (t.Bar k ∷ vs) a refl n) (terms_again j vs ys r c b f n)
+
+  pub union_again : (m : ℕ) (ts : List Symbol) (ty : TypeExpr) (rest : List Symbol) → IsUnion m ts ty rest → starts is_bar rest ≡ false → Free rest → (n : ℕ) → Agrees n m (sized n m ty) rest (union_at n (type_at n) (lower_at n) ts)
+  union_again m ts ty rest (g.alone j us z r a) b f n = e.union_alone n j (lower_at n) us z r (type_begins j us z r a) b (type_again j us z r a f n)
+  union_again m ts ty rest (g.approximate j at us z r a) b f n = e.tilde_alone n j at us z r b (type_again j us z r a f)
+  union_again m ts ty rest (g.several i j k us vs x xs r (g.exactly l ws z r' a) c) b f n =
+      e.plain_several n l j k ws vs z xs r (type_begins l ws z (t.Bar k ∷ vs) a) (tall l ws z (t.Bar k ∷ vs) a) (type_again l ws z (t.Bar k ∷ vs) a refl n) (terms_again j vs xs r c b f)
+  union_again m ts ty rest (g.several i j k us vs x xs r (g.approximately l at ws z r' a) c) b f n = e.tilde_several n l j at k ws vs z xs r (type_again l ws z (t.Bar k ∷ vs) a refl) (terms_again j vs xs r c b f)
+
+  pub elem_again : (m : ℕ) (ts : List Symbol) (x : ElemExpr) (rest : List Symbol) → IsElem m ts x rest → starts ends_field rest ≡ true → (n : ℕ) → Agrees n m (sized n m x) rest (elem_at n (type_at n) (lower_at n) ts)
+  elem_again m ts x rest (g.method j i us s r a) f n = e.method_again n j i us s r (sig_opens j us s r a) (sig_again j us s r a (end_free r f) n)
+  elem_again m ts x rest (g.embeds j us z r a) f n =
+      embeds_again n j us z r (λ i vs same. union_followed j i vs z r (subst (λ (ws : List Symbol). IsUnion j ws z r) same a) f) (union_again j us z r a (end_no_bar r f) (end_free r f) n)
+
+  pub elems_again : (m : ℕ) (ts : List Symbol) (xs : List ElemExpr) (rest : List Symbol) → IsElems m ts xs rest → (n : ℕ) → Agrees n m (sized n m xs) rest (elems_at n (type_at n) (lower_at n) ts)
+  elems_again m ts xs rest (g.no_elem c r) n = e.elems_none n c r
+  elems_again m ts xs rest (g.last_elem j c us x r a) n = e.elems_last n j us x c r (elem_no_brace j us x (t.CloseBrace c ∷ r) a) (elem_again j us x (t.CloseBrace c ∷ r) a refl n)
+  elems_again m ts xs rest (g.more_elems i j s us vs x ys r a b) n = e.elems_more n i j us x s vs ys r (elem_no_brace i us x (t.Semicolon s ∷ vs) a) (elem_again i us x (t.Semicolon s ∷ vs) a refl n) (elems_again j vs ys r b n)

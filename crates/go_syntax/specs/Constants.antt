@@ -9,12 +9,12 @@ use Rattle.go_syntax.specs.declared.tree.Top.{Top}
 use Rattle.go_syntax.specs.declared.tree.Top.TheVariants as top
 use Rattle.go_syntax.specs.declared.constants.Written.{Written}
 use Rattle.go_syntax.specs.declared.expressions.Operand.{Operand}
-use Rattle.go_syntax.specs.Reading.{Reply, ◌>>=◌, past, choose, peek, is_comma, is_assign, steps}
+use Rattle.go_syntax.specs.Reading.{Reply, ◌>>=◌, past, choose, peek, is_comma, is_assign, begins_type, steps}
 use Rattle.go_syntax.specs.Names.{IsNames, ident_at, names_at, names_more}
 use Rattle.go_syntax.specs.Expressions.{IsExpr}
 use Rattle.go_syntax.specs.Operands.{expr_at}
 use Rattle.go_syntax.specs.Grammar.{IsType}
-use Rattle.go_syntax.specs.Types.{begins_type, type_at}
+use Rattle.go_syntax.specs.Types.{type_at}
 
 -- ---- as they are written
 
@@ -71,7 +71,7 @@ abbrev pub const_assign : ℕ → List Ident → TypeExpr → List Symbol → Re
 const_assign n names ty ts = past is_assign ts >>= λ us. const_values n names (Some ty) us
 
 abbrev pub const_typed : ℕ → List Ident → List Symbol → Reply Written
-const_typed n names ts = type_at n ts >>= λ ty. const_assign n names ty.0 ty.1
+const_typed n names ts = type_at n ts >>= λ ty. const_assign n names ty.0.0 ty.1
 
 abbrev pub const_empty : List Ident → List Symbol → Reply Written
 const_empty names ts = Ok (written names None [], ts)

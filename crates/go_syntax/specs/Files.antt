@@ -33,7 +33,7 @@ import_at (t.Dot at ∷ ts) = dot_import (t.Dot at ∷ ts)
 import_at ts = unexpected ts
 
 abbrev pub vars_typed : ℕ → List Ident → List Symbol → Reply Top
-vars_typed n names ts = type_at n ts >>= λ ty. Ok (vars names ty.0, ty.1)
+vars_typed n names ts = type_at n ts >>= λ ty. Ok (vars names ty.0.0, ty.1)
 
 abbrev pub vars_more : ℕ → Ident → List Symbol → Reply Top
 vars_more n i ts = names_more names_at i ts >>= λ names. vars_typed n names.0 names.1
@@ -45,10 +45,10 @@ abbrev pub var_spec_at : ℕ → List Symbol → Reply Top
 var_spec_at n ts = ident_at ts >>= λ i. vars_first n i.0 i.1
 
 abbrev pub alias_by : ℕ → Ident → List Symbol → Reply Top
-alias_by n i ts = type_at n ts >>= λ ty. Ok (alias i ty.0, ty.1)
+alias_by n i ts = type_at n ts >>= λ ty. Ok (alias i ty.0.0, ty.1)
 
 abbrev pub defined_by : ℕ → Ident → List Symbol → Reply Top
-defined_by n i ts = type_at n ts >>= λ ty. Ok (defined i ty.0, ty.1)
+defined_by n i ts = type_at n ts >>= λ ty. Ok (defined i ty.0.0, ty.1)
 
 abbrev pub type_first : ℕ → Ident → List Symbol → Reply Top
 type_first n i ts = choose (past is_assign ts) (alias_by n i) (defined_by n i ts)

@@ -3,6 +3,8 @@ pub mod Names
 pub mod Grammar
 pub mod Expressions
 pub mod Operands
+pub mod Params
+pub mod Elements
 pub mod Types
 pub mod Constants
 pub mod Kinds

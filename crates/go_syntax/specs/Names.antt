@@ -1,5 +1,5 @@
 -- Names and tags, as they are written and as they are read.
-use Rattle.std.specs.Prelude.{ℕ, List, [], ◌∷◌, Option, Some, None, Ok}
+use Rattle.std.specs.Prelude.{ℕ, List, [], ◌∷◌, Option, Some, None, Ok, Err}
 use Rattle.go_syntax.specs.declared.symbols.Symbol.{Symbol}
 use Rattle.go_syntax.specs.declared.symbols.Symbol.TheVariants as t
 use Rattle.go_syntax.specs.declared.symbols.Ident.{Ident}
@@ -33,6 +33,11 @@ pub data IsTag : List Symbol → Option Span → List Symbol → Type 0 where
 abbrev pub ident_at : List Symbol → Reply Ident
 ident_at (t.Ident i ∷ ts) = Ok (i, ts)
 ident_at ts = unexpected ts
+
+-- q of the identifier where one comes next, and else the other
+abbrev pub ident_or : {X : Type 0} → Reply Ident → (Ident → List Symbol → Reply X) → Reply X → Reply X
+ident_or (Ok i) q other = q i.0 i.1
+ident_or (Err f) q other = other
 
 abbrev pub tag_at : List Symbol → Reply (Option Span)
 tag_at (t.Text s ∷ ts) = Ok (Some s, ts)

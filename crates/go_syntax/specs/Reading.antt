@@ -1,5 +1,5 @@
 -- Reading from the front of a list of tokens: what is read and the tokens after it, or a fault.
-use Rattle.std.specs.Prelude.{◌≡◌, ℕ, zero, suc, Bool, true, false, List, [], ◌∷◌, length, if◌then◌else◌, Result, Ok, Err}
+use Rattle.std.specs.Prelude.{◌≡◌, ℕ, zero, suc, min, Bool, true, false, List, [], ◌∷◌, ◌++◌, length, if◌then◌else◌, Result, Ok, Err}
 use Rattle.go_syntax.specs.declared.symbols.Symbol.{Symbol}
 use Rattle.go_syntax.specs.declared.symbols.Symbol.TheVariants as t
 use Rattle.go_syntax.specs.declared.faults.Fault.{Fault}
@@ -92,6 +92,26 @@ abbrev pub is_chan : Symbol → Bool
 is_chan (t.Chan at) = true
 is_chan _ = false
 
+abbrev pub is_func : Symbol → Bool
+is_func (t.Func at) = true
+is_func _ = false
+
+abbrev pub is_ellipsis : Symbol → Bool
+is_ellipsis (t.Ellipsis at) = true
+is_ellipsis _ = false
+
+abbrev pub is_tilde : Symbol → Bool
+is_tilde (t.Tilde at) = true
+is_tilde _ = false
+
+abbrev pub is_bar : Symbol → Bool
+is_bar (t.Bar at) = true
+is_bar _ = false
+
+abbrev pub is_interface : Symbol → Bool
+is_interface (t.Interface at) = true
+is_interface _ = false
+
 abbrev pub is_package : Symbol → Bool
 is_package (t.Package at) = true
 is_package _ = false
@@ -99,6 +119,20 @@ is_package _ = false
 abbrev pub is_ident : Symbol → Bool
 is_ident (t.Ident i) = true
 is_ident _ = false
+
+-- whether a type begins with this token
+abbrev pub begins_type : Symbol → Bool
+begins_type (t.Ident i) = true
+begins_type (t.OpenParen at) = true
+begins_type (t.Star at) = true
+begins_type (t.OpenBracket at) = true
+begins_type (t.Map at) = true
+begins_type (t.Chan at) = true
+begins_type (t.Arrow at) = true
+begins_type (t.Struct at) = true
+begins_type (t.Func at) = true
+begins_type (t.Interface at) = true
+begins_type _ = false
 
 -- q where the token was there, and else the other
 abbrev pub choose : {X : Type 0} → Result (List Symbol) Fault → (List Symbol → Reply X) → Reply X → Reply X
@@ -123,27 +157,114 @@ steps_of (suc n) step ts = step (steps_of n step) ts
 abbrev pub steps : {Y : Type 0} → ((List Symbol → Reply Y) → List Symbol → Reply Y) → List Symbol → Reply Y
 steps step ts = steps_of (suc (length ts)) step ts
 
--- What follows an item of a row: the end, or a semicolon and more.
-abbrev pub row_more : {X : Type 0} → (List Symbol → Reply (List X)) → X → List Symbol → Reply (List X)
-row_more more x vs = more vs >>= λ xs. Ok (x ∷ xs.0, xs.1)
+-- How items are listed: with such a token between each two, and perhaps after the last, up to the one that closes. A final item has to be the last.
+pub record Shape (X Y : Type 0) : Type 0 where
+  pub sep : Symbol → Bool
+  pub closes : Symbol → Bool
+  pub final : X → Bool
+  pub nil : Y
+  pub cons : X → Y → Y
 
-abbrev pub row_end : {X : Type 0} → (Symbol → Bool) → (List Symbol → Reply (List X)) → X → List Symbol → Reply (List X)
-row_end closes more x us = choose (past closes us) (λ rest. Ok (x ∷ [], rest)) (past is_semicolon us >>= λ vs. row_more more x vs)
+abbrev pub series_more : {X Y : Type 0} → Shape X Y → (List Symbol → Reply Y) → X → List Symbol → Reply Y
+series_more S more x vs = more vs >>= λ ys. Ok (S.cons x ys.0, ys.1)
 
-abbrev pub row_item : {X : Type 0} → (Symbol → Bool) → (List Symbol → Reply X) → (List Symbol → Reply (List X)) → List Symbol → Reply (List X)
-row_item closes one more ts = one ts >>= λ x. row_end closes more x.0 x.1
+abbrev pub series_close : {X Y : Type 0} → Shape X Y → X → List Symbol → Reply Y
+series_close S x vs = past S.closes vs >>= λ rest. Ok (S.cons x S.nil, rest)
 
-abbrev pub row_by : {X : Type 0} → (Symbol → Bool) → (List Symbol → Reply X) → (List Symbol → Reply (List X)) → List Symbol → Reply (List X)
-row_by closes one more ts = choose (past closes ts) (λ rest. Ok ([], rest)) (row_item closes one more ts)
+abbrev pub series_next : {X Y : Type 0} → Shape X Y → (List Symbol → Reply Y) → X → List Symbol → Reply Y
+series_next S more x vs = if S.final x then series_close S x vs else series_more S more x vs
 
--- Up to n items. Each takes a token.
-unfoldable pub row_of : {X : Type 0} → ℕ → (Symbol → Bool) → (List Symbol → Reply X) → List Symbol → Reply (List X)
-row_of zero closes one ts = unexpected ts
-row_of (suc n) closes one ts = row_by closes one (row_of n closes one) ts
+-- what follows an item
+abbrev pub series_end : {X Y : Type 0} → Shape X Y → (List Symbol → Reply Y) → X → List Symbol → Reply Y
+series_end S more x us = choose (past S.closes us) (λ rest. Ok (S.cons x S.nil, rest)) (past S.sep us >>= λ vs. series_next S more x vs)
+
+abbrev pub series_item : {X Y : Type 0} → Shape X Y → (List Symbol → Reply X) → (List Symbol → Reply Y) → List Symbol → Reply Y
+series_item S one more ts = one ts >>= λ x. series_end S more x.0 x.1
+
+abbrev pub series_by : {X Y : Type 0} → Shape X Y → (List Symbol → Reply X) → (List Symbol → Reply Y) → List Symbol → Reply Y
+series_by S one more ts = choose (past S.closes ts) (λ rest. Ok (S.nil, rest)) (series_item S one more ts)
+
+abbrev pub series : {X Y : Type 0} → Shape X Y → (List Symbol → Reply X) → List Symbol → Reply Y
+series S one ts = steps (series_by S one) ts
+
+abbrev pub rows : {X : Type 0} → (Symbol → Bool) → Shape X (List X)
+rows closes = record { sep = is_semicolon; closes = closes; final = λ x. false; nil = []; cons = λ x xs. x ∷ xs }
 
 -- Items with a semicolon between each two, and perhaps after the last, up to the token that closes.
 abbrev pub row : {X : Type 0} → (Symbol → Bool) → (List Symbol → Reply X) → List Symbol → Reply (List X)
-row closes one ts = row_of (suc (length ts)) closes one ts
+row closes one ts = series (rows closes) one ts
+
+-- an item, and more of them as long as such a token comes next
+abbrev pub chain_more : {X Y : Type 0} → (X → Y → Y) → (List Symbol → Reply Y) → X → List Symbol → Reply Y
+chain_more cons more x vs = more vs >>= λ ys. Ok (cons x ys.0, ys.1)
+
+abbrev pub chain_end : {X Y : Type 0} → (Symbol → Bool) → (X → Y) → (X → Y → Y) → (List Symbol → Reply Y) → X → List Symbol → Reply Y
+chain_end sep single cons more x us = choose (past sep us) (chain_more cons more x) (Ok (single x, us))
+
+abbrev pub chain_by : {X Y : Type 0} → (Symbol → Bool) → (X → Y) → (X → Y → Y) → (List Symbol → Reply X) → (List Symbol → Reply Y) → List Symbol → Reply Y
+chain_by sep single cons one more ts = one ts >>= λ x. chain_end sep single cons more x.0 x.1
+
+abbrev pub chain : {X Y : Type 0} → (Symbol → Bool) → (X → Y) → (X → Y → Y) → (List Symbol → Reply X) → List Symbol → Reply Y
+chain sep single cons one ts = steps (chain_by sep single cons one) ts
+
+-- ---- places, and how much deeper a tree might be
+
+-- the first byte of a token
+abbrev pub symbol_start : Symbol → ℕ
+symbol_start (t.Ident i) = i.start
+symbol_start (t.Text s) = s.start
+symbol_start (t.Semicolon at) = at
+symbol_start (t.Comma at) = at
+symbol_start (t.Dot at) = at
+symbol_start (t.Assign at) = at
+symbol_start (t.OpenParen at) = at
+symbol_start (t.CloseParen at) = at
+symbol_start (t.OpenBracket at) = at
+symbol_start (t.CloseBracket at) = at
+symbol_start (t.OpenBrace at) = at
+symbol_start (t.CloseBrace at) = at
+symbol_start (t.Star at) = at
+symbol_start (t.Arrow at) = at
+symbol_start (t.Package at) = at
+symbol_start (t.Import at) = at
+symbol_start (t.Type at) = at
+symbol_start (t.Var at) = at
+symbol_start (t.Chan at) = at
+symbol_start (t.Map at) = at
+symbol_start (t.Struct at) = at
+symbol_start (t.Func at) = at
+symbol_start (t.Interface at) = at
+symbol_start (t.Ellipsis at) = at
+symbol_start (t.Tilde at) = at
+symbol_start (t.Bar at) = at
+symbol_start (t.Operator op at) = at
+symbol_start (t.Literal token) = token.start
+symbol_start (t.Const at) = at
+symbol_start (t.Other at) = at
+
+-- the place of the first token
+abbrev pub start_of : List Symbol → ℕ
+start_of [] = 0
+start_of (k ∷ ts) = symbol_start k
+
+-- what is read, with the place of its first token
+abbrev pub placed : {X : Type 0} → (List Symbol → Reply X) → List Symbol → Reply (X × ℕ)
+placed p ts = p ts >>= λ x. Ok ((x.0, start_of ts), x.1)
+
+-- a tree, and how many more nodes its longest path might have
+abbrev pub Fit : Type 0 → Type 0
+Fit X = X × ℕ
+
+-- items with trees, where n nodes are left for each
+abbrev pub fitting : {X Y : Type 0} → ℕ → (Symbol → Bool) → (Symbol → Bool) → (X → Bool) → (X → Y) → (X → ℕ) → Shape X (Fit (List Y))
+fitting n sep closes final tree fit = record { sep = sep; closes = closes; final = final; nil = ([], n); cons = λ x ys. (tree x ∷ ys.0, min (fit x) ys.1) }
+
+-- such a list behind another
+abbrev pub with_fit : {Y : Type 0} → Fit (List Y) → Reply (Fit (List Y)) → Reply (Fit (List Y))
+with_fit front read = read >>= λ ys. Ok ((front.0 ++ ys.0.0, min front.1 ys.0.1), ys.1)
+
+abbrev pub fits : {X : Type 0} → ℕ → (Symbol → Bool) → (Symbol → Bool) → Shape (Fit X) (Fit (List X))
+fits n sep closes = fitting n sep closes (λ x. false) (λ x. x.0) (λ x. x.1)
 
 -- What a call answers is what reading gives, unless memory ran out.
 abbrev pub Fails : {Y : Type 0} → Stop → Result Y Fault → Type 0

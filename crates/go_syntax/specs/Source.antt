@@ -19,6 +19,8 @@ keyword_symbol w.Const at = t.Const at
 keyword_symbol w.Chan at = t.Chan at
 keyword_symbol w.Map at = t.Map at
 keyword_symbol w.Struct at = t.Struct at
+keyword_symbol w.Func at = t.Func at
+keyword_symbol w.Interface at = t.Interface at
 keyword_symbol _ at = t.Other at
 
 -- the operator of one byte other than the star and the bar, and of two
@@ -67,7 +69,8 @@ single_symbol b at =
     else (if b == 125 then t.CloseBrace at
     else (if b == 42 then t.Star at
     else (if b == 124 then t.Bar at
-    else operator_symbol (single_operator b) at)))))))))))
+    else (if b == 126 then t.Tilde at
+    else operator_symbol (single_operator b) at))))))))))))
 
 -- of two bytes
 abbrev pub pair_symbol : ℕ → Option ℕ → ℕ → Symbol

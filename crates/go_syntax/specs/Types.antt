@@ -1,82 +1,89 @@
--- Types, as they are read.
-use Rattle.std.specs.Prelude.{ℕ, zero, suc, Bool, true, false, List, [], ◌∷◌, Ok}
+-- Types, as they are read, each with how many more nodes its longest path might have.
+use Rattle.std.specs.Prelude.{ℕ, zero, suc, ◌-◌, min, Bool, true, false, List, [], ◌∷◌, Ok}
 use Rattle.go_syntax.specs.declared.symbols.Symbol.{Symbol}
 use Rattle.go_syntax.specs.declared.symbols.Symbol.TheVariants as t
 use Rattle.go_syntax.specs.declared.symbols.Ident.{Ident}
-use Rattle.go_syntax.specs.declared.tree.Expr.{Expr}
 use Rattle.go_syntax.specs.declared.tree.FieldExpr.{FieldExpr}
 use Rattle.go_syntax.specs.declared.tree.TypeExpr.{TypeExpr}
 use Rattle.go_syntax.specs.declared.tree.TypeExpr.TheVariants as y
-use Rattle.go_syntax.specs.Reading.{Reply, ◌>>=◌, unexpected, too_deep, past, is_close_paren, is_open_bracket, is_close_bracket, is_open_brace, is_close_brace, is_chan, is_arrow, is_comma, is_ident, choose, peek, row}
+use Rattle.go_syntax.specs.Reading.{Reply, ◌>>=◌, unexpected, too_deep, past, is_semicolon, is_close_paren, is_open_bracket, is_close_bracket, is_open_brace, is_close_brace, is_chan, is_arrow, is_comma, is_ident, begins_type, choose, peek, series, Fit, fits}
 use Rattle.go_syntax.specs.Names.{ident_at, tag_at, dotted, names_more, names_at}
 use Rattle.go_syntax.specs.Grammar.{named, field}
-use Rattle.go_syntax.specs.Operands.{expr_at}
-
-abbrev pub name_by : Ident → List Symbol → Reply TypeExpr
-name_by i ts = dotted i ts >>= λ x. Ok (named x.0, x.1)
+use Rattle.go_syntax.specs.Operands.{Sized, expr_at}
+use Rattle.go_syntax.specs.Params.{sig_at}
+use Rattle.go_syntax.specs.Elements.{name_by, interface_by}
 
 -- a type, and then a value of it
-abbrev pub with_type : (List Symbol → Reply TypeExpr) → (TypeExpr → TypeExpr) → List Symbol → Reply TypeExpr
-with_type inner make ts = inner ts >>= λ ty. Ok (make ty.0, ty.1)
+abbrev pub with_type : (List Symbol → Reply (Fit TypeExpr)) → (TypeExpr → TypeExpr) → List Symbol → Reply (Fit TypeExpr)
+with_type inner make ts = inner ts >>= λ ty. Ok ((make ty.0.0, ty.0.1), ty.1)
 
-abbrev pub paren_end : ℕ → TypeExpr → List Symbol → Reply TypeExpr
-paren_end at ty us = past is_close_paren us >>= λ rest. Ok (y.Paren ty at, rest)
+abbrev pub paren_end : ℕ → Fit TypeExpr → List Symbol → Reply (Fit TypeExpr)
+paren_end at ty us = past is_close_paren us >>= λ rest. Ok ((y.Paren ty.0 at, ty.1), rest)
 
-abbrev pub paren_by : (List Symbol → Reply TypeExpr) → ℕ → List Symbol → Reply TypeExpr
+abbrev pub paren_by : (List Symbol → Reply (Fit TypeExpr)) → ℕ → List Symbol → Reply (Fit TypeExpr)
 paren_by inner at ts = inner ts >>= λ ty. paren_end at ty.0 ty.1
 
-abbrev pub array_end : (List Symbol → Reply TypeExpr) → ℕ → Expr → List Symbol → Reply TypeExpr
-array_end inner at length us = past is_close_bracket us >>= λ vs. with_type inner (λ ty. y.Array length ty at) vs
+abbrev pub array_item : (List Symbol → Reply (Fit TypeExpr)) → ℕ → Sized → List Symbol → Reply (Fit TypeExpr)
+array_item inner at length vs = inner vs >>= λ ty. Ok ((y.Array (length.0).expr ty.0.0 at, min length.1 ty.0.1), ty.1)
 
-abbrev pub array_by : ℕ → (List Symbol → Reply TypeExpr) → ℕ → List Symbol → Reply TypeExpr
-array_by n inner at ts = expr_at n ts >>= λ x. array_end inner at (x.0.0).expr x.1
+abbrev pub array_end : (List Symbol → Reply (Fit TypeExpr)) → ℕ → Sized → List Symbol → Reply (Fit TypeExpr)
+array_end inner at length us = past is_close_bracket us >>= λ vs. array_item inner at length vs
 
-abbrev pub bracket_by : ℕ → (List Symbol → Reply TypeExpr) → ℕ → List Symbol → Reply TypeExpr
+abbrev pub array_by : ℕ → (List Symbol → Reply (Fit TypeExpr)) → ℕ → List Symbol → Reply (Fit TypeExpr)
+array_by n inner at ts = expr_at n ts >>= λ x. array_end inner at x.0 x.1
+
+abbrev pub bracket_by : ℕ → (List Symbol → Reply (Fit TypeExpr)) → ℕ → List Symbol → Reply (Fit TypeExpr)
 bracket_by n inner at ts = choose (past is_close_bracket ts) (λ us. with_type inner (λ ty. y.Slice ty at) us) (array_by n inner at ts)
 
-abbrev pub map_end : (List Symbol → Reply TypeExpr) → ℕ → TypeExpr → List Symbol → Reply TypeExpr
-map_end inner at key us = past is_close_bracket us >>= λ vs. with_type inner (λ ty. y.MapOf key ty at) vs
+abbrev pub map_value : (List Symbol → Reply (Fit TypeExpr)) → ℕ → Fit TypeExpr → List Symbol → Reply (Fit TypeExpr)
+map_value inner at key vs = inner vs >>= λ ty. Ok ((y.MapOf key.0 ty.0.0 at, min key.1 ty.0.1), ty.1)
 
-abbrev pub map_inside : (List Symbol → Reply TypeExpr) → ℕ → List Symbol → Reply TypeExpr
+abbrev pub map_end : (List Symbol → Reply (Fit TypeExpr)) → ℕ → Fit TypeExpr → List Symbol → Reply (Fit TypeExpr)
+map_end inner at key us = past is_close_bracket us >>= λ vs. map_value inner at key vs
+
+abbrev pub map_inside : (List Symbol → Reply (Fit TypeExpr)) → ℕ → List Symbol → Reply (Fit TypeExpr)
 map_inside inner at us = inner us >>= λ key. map_end inner at key.0 key.1
 
-abbrev pub map_by : (List Symbol → Reply TypeExpr) → ℕ → List Symbol → Reply TypeExpr
+abbrev pub map_by : (List Symbol → Reply (Fit TypeExpr)) → ℕ → List Symbol → Reply (Fit TypeExpr)
 map_by inner at ts = past is_open_bracket ts >>= λ us. map_inside inner at us
 
-abbrev pub chan_by : (List Symbol → Reply TypeExpr) → ℕ → List Symbol → Reply TypeExpr
+abbrev pub chan_by : (List Symbol → Reply (Fit TypeExpr)) → ℕ → List Symbol → Reply (Fit TypeExpr)
 chan_by inner at ts = choose (past is_arrow ts) (λ us. with_type inner (λ ty. y.Chan false true ty at) us) (with_type inner (λ ty. y.Chan true true ty at) ts)
 
-abbrev pub receive_by : (List Symbol → Reply TypeExpr) → ℕ → List Symbol → Reply TypeExpr
+abbrev pub receive_by : (List Symbol → Reply (Fit TypeExpr)) → ℕ → List Symbol → Reply (Fit TypeExpr)
 receive_by inner at ts = past is_chan ts >>= λ us. with_type inner (λ ty. y.Chan true false ty at) us
 
+abbrev pub func_by : ℕ → (List Symbol → Reply (Fit TypeExpr)) → ℕ → List Symbol → Reply (Fit TypeExpr)
+func_by n inner at ts = sig_at n inner ts >>= λ s. Ok ((y.Func s.0.0 at, s.0.1), s.1)
+
 -- the tag after a field's type
-abbrev pub tagged : List Ident → TypeExpr → ℕ → List Symbol → Reply FieldExpr
-tagged names ty at ts = tag_at ts >>= λ tag. Ok (field names ty tag.0 at, tag.1)
+abbrev pub tagged : List Ident → Fit TypeExpr → ℕ → List Symbol → Reply (Fit FieldExpr)
+tagged names ty at ts = tag_at ts >>= λ tag. Ok ((field names ty.0 tag.0 at, ty.1), tag.1)
 
 -- after a field's names
-abbrev pub shared_by : (List Symbol → Reply TypeExpr) → List Ident → ℕ → List Symbol → Reply FieldExpr
+abbrev pub shared_by : (List Symbol → Reply (Fit TypeExpr)) → List Ident → ℕ → List Symbol → Reply (Fit FieldExpr)
 shared_by inner names at ts = inner ts >>= λ ty. tagged names ty.0 at ty.1
 
--- after the name of an embedded type
-abbrev pub embedded_by : Ident → List Symbol → Reply FieldExpr
-embedded_by i ts = dotted i ts >>= λ x. tagged [] (named x.0) (x.0).at x.1
+-- after the name of an embedded type, where n more nodes would fit
+abbrev pub embedded_by : ℕ → Ident → List Symbol → Reply (Fit FieldExpr)
+embedded_by n i ts = dotted i ts >>= λ x. tagged [] (named x.0, n) (x.0).at x.1
 
 -- after the star of an embedded pointer
-abbrev pub pointer_by : ℕ → Ident → List Symbol → Reply FieldExpr
-pointer_by at i ts = dotted i ts >>= λ x. tagged [] (y.Pointer (named x.0) at) at x.1
+abbrev pub pointer_by : ℕ → ℕ → Ident → List Symbol → Reply (Fit FieldExpr)
+pointer_by n at i ts = dotted i ts >>= λ x. tagged [] (y.Pointer (named x.0) at, n) at x.1
 
 -- the name that an embedded type begins with, where n nodes are left
 abbrev pub embedded_ident : ℕ → List Symbol → Reply Ident
 embedded_ident zero ts = peek is_ident ts (too_deep ts) (unexpected ts)
 embedded_ident (suc n) ts = ident_at ts
 
-abbrev pub star_by : ℕ → ℕ → List Symbol → Reply FieldExpr
-star_by n at ts = embedded_ident n ts >>= λ i. pointer_by at i.0 i.1
+abbrev pub star_by : ℕ → ℕ → List Symbol → Reply (Fit FieldExpr)
+star_by n at ts = embedded_ident n ts >>= λ i. pointer_by (n - 1) at i.0 i.1
 
 -- a name that turns out to be a type, where n nodes are left
-abbrev pub lone_by : ℕ → Ident → List Symbol → Reply FieldExpr
+abbrev pub lone_by : ℕ → Ident → List Symbol → Reply (Fit FieldExpr)
 lone_by zero i ts = too_deep ts
-lone_by (suc n) i ts = embedded_by i ts
+lone_by (suc n) i ts = embedded_by n i ts
 
 -- whether this token shows that the identifier before it is an embedded type
 abbrev pub shows_embedded : Symbol → Bool
@@ -87,57 +94,62 @@ shows_embedded (t.Text s) = true
 shows_embedded _ = false
 
 -- after the comma behind a field's first identifier
-abbrev pub more_names : (List Symbol → Reply TypeExpr) → Ident → List Symbol → Reply FieldExpr
+abbrev pub more_names : (List Symbol → Reply (Fit TypeExpr)) → Ident → List Symbol → Reply (Fit FieldExpr)
 more_names inner i ts = names_more names_at i ts >>= λ names. shared_by inner names.0 i.start names.1
 
 -- after a field's first identifier
-abbrev pub first_by : ℕ → (List Symbol → Reply TypeExpr) → Ident → List Symbol → Reply FieldExpr
+abbrev pub first_by : ℕ → (List Symbol → Reply (Fit TypeExpr)) → Ident → List Symbol → Reply (Fit FieldExpr)
 first_by n inner i ts = choose (past is_comma ts) (more_names inner i) (peek shows_embedded ts (lone_by n i ts) (shared_by inner (i ∷ []) i.start ts))
 
-abbrev pub star_at : ℕ → ℕ → List Symbol → Reply FieldExpr
+abbrev pub star_at : ℕ → ℕ → List Symbol → Reply (Fit FieldExpr)
 star_at zero at ts = too_deep (t.Star at ∷ ts)
 star_at (suc n) at ts = star_by n at ts
 
-abbrev pub field_by : ℕ → (List Symbol → Reply TypeExpr) → List Symbol → Reply FieldExpr
+abbrev pub field_by : ℕ → (List Symbol → Reply (Fit TypeExpr)) → List Symbol → Reply (Fit FieldExpr)
 field_by n inner (t.Star at ∷ ts) = star_at n at ts
 field_by n inner (t.Ident i ∷ ts) = first_by n inner i ts
 field_by n inner ts = unexpected ts
 
-abbrev pub struct_inside : ℕ → (List Symbol → Reply TypeExpr) → ℕ → List Symbol → Reply TypeExpr
-struct_inside n inner at us = row is_close_brace (field_by n inner) us >>= λ fields. Ok (y.Struct fields.0 at, fields.1)
+abbrev pub fields_at : ℕ → (List Symbol → Reply (Fit TypeExpr)) → List Symbol → Reply (Fit (List FieldExpr))
+fields_at n inner ts = series (fits n is_semicolon is_close_brace) (field_by n inner) ts
 
-abbrev pub struct_by : ℕ → (List Symbol → Reply TypeExpr) → ℕ → List Symbol → Reply TypeExpr
+abbrev pub struct_inside : ℕ → (List Symbol → Reply (Fit TypeExpr)) → ℕ → List Symbol → Reply (Fit TypeExpr)
+struct_inside n inner at us = fields_at n inner us >>= λ fields. Ok ((y.Struct fields.0.0 at, fields.0.1), fields.1)
+
+abbrev pub struct_by : ℕ → (List Symbol → Reply (Fit TypeExpr)) → ℕ → List Symbol → Reply (Fit TypeExpr)
 struct_by n inner at ts = past is_open_brace ts >>= λ us. struct_inside n inner at us
 
--- one step, with what reads the types inside, where n nodes are left for them
-abbrev pub type_by : ℕ → (List Symbol → Reply TypeExpr) → List Symbol → Reply TypeExpr
-type_by n inner (t.Ident i ∷ ts) = name_by i ts
-type_by n inner (t.OpenParen at ∷ ts) = paren_by inner at ts
-type_by n inner (t.Star at ∷ ts) = with_type inner (λ ty. y.Pointer ty at) ts
-type_by n inner (t.OpenBracket at ∷ ts) = bracket_by n inner at ts
-type_by n inner (t.Map at ∷ ts) = map_by inner at ts
-type_by n inner (t.Chan at ∷ ts) = chan_by inner at ts
-type_by n inner (t.Arrow at ∷ ts) = receive_by inner at ts
-type_by n inner (t.Struct at ∷ ts) = struct_by n inner at ts
-type_by n inner ts = unexpected ts
-
--- whether a type begins with this token
-abbrev pub begins_type : Symbol → Bool
-begins_type (t.Ident i) = true
-begins_type (t.OpenParen at) = true
-begins_type (t.Star at) = true
-begins_type (t.OpenBracket at) = true
-begins_type (t.Map at) = true
-begins_type (t.Chan at) = true
-begins_type (t.Arrow at) = true
-begins_type (t.Struct at) = true
-begins_type _ = false
+-- one step, with what reads the types inside, where n nodes are left for them, and those a node deeper
+abbrev pub type_by : ℕ → (List Symbol → Reply (Fit TypeExpr)) → (List Symbol → Reply (Fit TypeExpr)) → List Symbol → Reply (Fit TypeExpr)
+type_by n inner lower (t.Ident i ∷ ts) = name_by n i ts
+type_by n inner lower (t.OpenParen at ∷ ts) = paren_by inner at ts
+type_by n inner lower (t.Star at ∷ ts) = with_type inner (λ ty. y.Pointer ty at) ts
+type_by n inner lower (t.OpenBracket at ∷ ts) = bracket_by n inner at ts
+type_by n inner lower (t.Map at ∷ ts) = map_by inner at ts
+type_by n inner lower (t.Chan at ∷ ts) = chan_by inner at ts
+type_by n inner lower (t.Arrow at ∷ ts) = receive_by inner at ts
+type_by n inner lower (t.Func at ∷ ts) = func_by n inner at ts
+type_by n inner lower (t.Struct at ∷ ts) = struct_by n inner at ts
+type_by n inner lower (t.Interface at ∷ ts) = interface_by n inner lower at ts
+type_by n inner lower ts = unexpected ts
 
 -- no node is left
-abbrev pub no_type : List Symbol → Reply TypeExpr
+abbrev pub no_type : List Symbol → Reply (Fit TypeExpr)
 no_type ts = peek begins_type ts (too_deep ts) (unexpected ts)
 
+-- what reads types with up to n nodes on a path, and what reads those with one less
+pub record Readers : Type 0 where
+  pub here : List Symbol → Reply (Fit TypeExpr)
+  pub below : List Symbol → Reply (Fit TypeExpr)
+
+unfoldable pub readers : ℕ → Readers
+readers zero = record { here = no_type; below = no_type }
+readers (suc n) = record { here = type_by n (readers n).here (readers n).below; below = (readers n).here }
+
 -- a type with up to n nodes on a path
-unfoldable pub type_at : ℕ → List Symbol → Reply TypeExpr
-type_at zero ts = no_type ts
-type_at (suc n) ts = type_by n (type_at n) ts
+abbrev pub type_at : ℕ → List Symbol → Reply (Fit TypeExpr)
+type_at n ts = (readers n).here ts
+
+-- a type with up to one node less
+abbrev pub lower_at : ℕ → List Symbol → Reply (Fit TypeExpr)
+lower_at n ts = (readers n).below ts

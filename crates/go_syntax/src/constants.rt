@@ -64,7 +64,7 @@ fn typed(
 ) -> Result<(Written, &[Symbol]), Stop>
     ensures { Gives (λ x. (x.0, x.1.now)) result (const_typed left names tokens.now) }
 {
-    let (ty, rest) = type_expr(alloc, tokens, left)?;
+    let ((ty, _), rest) = type_expr(alloc, tokens, left)?;
     let rest = past(Kind::Assign, rest)?;
     values(alloc, names, Some(ty), rest, left)
 }

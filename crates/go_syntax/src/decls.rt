@@ -5,7 +5,7 @@ ghost use Rattle.go_syntax.specs.Specs.{spec_of};
 use crate::constants::const_group;
 use crate::faults::{Fault, Stop};
 use crate::names::more_names;
-use crate::reading::{Kind, ident, past};
+use crate::reading::{Kind, ident, past, single};
 use crate::symbols::{Ident, Span, Symbol};
 use crate::tree::{Import, Top, TypeSpec, VarSpec};
 use crate::types::type_expr;
@@ -76,7 +76,7 @@ fn typed_vars(
 ) -> Result<(Top, &[Symbol]), Stop>
     ensures { Gives (λ x. (x.0, x.1.now)) result (vars_typed left names tokens.now) }
 {
-    let (ty, rest) = type_expr(alloc, tokens, left)?;
+    let ((ty, _), rest) = type_expr(alloc, tokens, left)?;
     Ok((Top::Var(VarSpec { names, ty }), rest))
 }
 
@@ -93,8 +93,7 @@ fn first_var(
         let (names, rest) = more_names(alloc, first, rest)?;
         return typed_vars(alloc, names, rest, left);
     }
-    let mut names = Items::new(alloc);
-    names.push(first)?;
+    let names = single(alloc, first)?;
     typed_vars(alloc, names, tokens, left)
 }
 
@@ -108,10 +107,10 @@ fn first_type(
     ensures { Gives (λ x. (x.0, x.1.now)) result (type_first left name tokens.now) }
 {
     if let Ok(rest) = past(Kind::Assign, tokens) {
-        let (ty, rest) = type_expr(alloc, rest, left)?;
+        let ((ty, _), rest) = type_expr(alloc, rest, left)?;
         return Ok((Top::Alias(TypeSpec { name, ty }), rest));
     }
-    let (ty, rest) = type_expr(alloc, tokens, left)?;
+    let ((ty, _), rest) = type_expr(alloc, tokens, left)?;
     Ok((Top::Defined(TypeSpec { name, ty }), rest))
 }
 

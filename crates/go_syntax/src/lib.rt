@@ -3,10 +3,12 @@
 
 mod constants;
 mod decls;
+mod elements;
 mod expressions;
 mod faults;
 mod files;
 mod names;
+mod params;
 mod parsing;
 mod reading;
 mod source;
@@ -17,7 +19,8 @@ mod types;
 pub use parsing::{SyntaxFault, What, parse};
 pub use symbols::{Ident, Operator, Span};
 pub use tree::{
-    ConstSpec, Expr, FieldExpr, Import, NameExpr, SourceFile, Top, TypeExpr, TypeSpec, VarSpec,
+    ConstSpec, ElemExpr, Expr, FieldExpr, Import, NameExpr, ParamExpr, SigExpr, SourceFile,
+    TermExpr, Top, TypeExpr, TypeSpec, VarSpec,
 };
 
 #[cfg(test)]

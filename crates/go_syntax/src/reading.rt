@@ -1,12 +1,14 @@
-ghost use Rattle.std.specs.Prelude.{◌≡◌, Ok, Err};
-ghost use Rattle.go_syntax.specs.Reading.{past, starts, Exactly};
+ghost use Rattle.std.specs.Prelude.{◌≡◌, [], ◌∷◌, Ok, Err, IfOk};
+ghost use Rattle.go_syntax.specs.Reading.{past, starts, symbol_start, start_of, Exactly};
 ghost use Rattle.go_syntax.specs.Kinds.{is_of};
+ghost use Rattle.go_syntax.specs.Params.{shows_types};
 ghost use Rattle.go_syntax.specs.Names.{ident_at};
 
 use crate::expressions::is_unary;
 use crate::faults::{Fault, Stop};
 use crate::symbols::{Ident, Symbol};
-use std::alloc::{AllocError, AllocFailed};
+use sqlite_items::Items;
+use std::alloc::{AllocError, AllocFailed, Global};
 
 impl From<Fault> for Stop {
     ghost use Rattle.go_syntax.specs.declared.faults.Stop.TheVariants.{At};
@@ -67,6 +69,17 @@ pub(crate) enum Kind {
     GoesOn,
     /// The token that shows that the identifier before it is an embedded type.
     EmbeddedEnd,
+    Ellipsis,
+    Bar,
+    Tilde,
+    /// What shows that the identifiers before it are types of parameters, where none may be variadic.
+    ListEnd,
+    /// The same where the last may be.
+    ListEndOrDots,
+    /// The token that shows that the identifier before it is the type of a parameter.
+    ParamEnd,
+    /// The token that shows that the identifier before it is an embedded type of an interface.
+    ElementEnd,
 }
 
 /// Whether a type begins with this token.
@@ -83,6 +96,8 @@ fn begins_type(symbol: Symbol) -> bool
             | Symbol::Chan(_)
             | Symbol::Arrow(_)
             | Symbol::Struct(_)
+            | Symbol::Func(_)
+            | Symbol::Interface(_)
     )
 }
 
@@ -104,6 +119,27 @@ fn shows_embedded(symbol: Symbol) -> bool
     matches!(
         symbol,
         Symbol::Dot(_) | Symbol::Semicolon(_) | Symbol::CloseBrace(_) | Symbol::Text(_)
+    )
+}
+
+/// Whether this token shows that the identifiers before it are types of parameters.
+fn shows_types(variadic: bool, symbol: Symbol) -> bool
+    ensures { result ≡ shows_types variadic symbol }
+{
+    match symbol {
+        Symbol::CloseParen(_) => true,
+        Symbol::Ellipsis(_) => variadic,
+        _ => begins_type(symbol),
+    }
+}
+
+/// Whether this token shows that the identifier before it is an embedded type of an interface.
+fn shows_elem(symbol: Symbol) -> bool
+    ensures { result ≡ is_of Kind.ElementEnd symbol }
+{
+    matches!(
+        symbol,
+        Symbol::Dot(_) | Symbol::Bar(_) | Symbol::Semicolon(_) | Symbol::CloseBrace(_)
     )
 }
 
@@ -134,6 +170,13 @@ fn is_of(kind: Kind, symbol: Symbol) -> bool
         Kind::EmbeddedEnd => shows_embedded(symbol),
         Kind::ExprStart => begins_expr(symbol),
         Kind::GoesOn => matches!(symbol, Symbol::Comma(_) | Symbol::Ellipsis(_)),
+        Kind::Ellipsis => matches!(symbol, Symbol::Ellipsis(_)),
+        Kind::Bar => matches!(symbol, Symbol::Bar(_)),
+        Kind::Tilde => matches!(symbol, Symbol::Tilde(_)),
+        Kind::ListEnd => shows_types(false, symbol),
+        Kind::ListEndOrDots => shows_types(true, symbol),
+        Kind::ParamEnd => matches!(symbol, Symbol::CloseParen(_) | Symbol::Dot(_)),
+        Kind::ElementEnd => shows_elem(symbol),
     }
 }
 
@@ -174,4 +217,61 @@ pub(crate) fn ident(tokens: &[Symbol]) -> Result<(Ident, &[Symbol]), Fault>
         },
         [] => Err(Fault::Unexpected(0)),
     }
+}
+
+/// The place of a token.
+fn symbol_start(symbol: Symbol) -> u32
+    ensures { result ≡ symbol_start symbol }
+{
+    match symbol {
+        Symbol::Ident(name) => name.start,
+        Symbol::Text(text) => text.start,
+        Symbol::Literal(token) => token.start,
+        Symbol::Operator(_, at) => at,
+        Symbol::Semicolon(at)
+        | Symbol::Comma(at)
+        | Symbol::Dot(at)
+        | Symbol::Assign(at)
+        | Symbol::OpenParen(at)
+        | Symbol::CloseParen(at)
+        | Symbol::OpenBracket(at)
+        | Symbol::CloseBracket(at)
+        | Symbol::OpenBrace(at)
+        | Symbol::CloseBrace(at)
+        | Symbol::Star(at)
+        | Symbol::Arrow(at)
+        | Symbol::Package(at)
+        | Symbol::Import(at)
+        | Symbol::Type(at)
+        | Symbol::Var(at)
+        | Symbol::Const(at)
+        | Symbol::Chan(at)
+        | Symbol::Map(at)
+        | Symbol::Struct(at)
+        | Symbol::Func(at)
+        | Symbol::Interface(at)
+        | Symbol::Ellipsis(at)
+        | Symbol::Tilde(at)
+        | Symbol::Bar(at)
+        | Symbol::Other(at) => at,
+    }
+}
+
+/// The place of the first token.
+pub(crate) fn start(tokens: &[Symbol]) -> u32
+    ensures { result ≡ start_of tokens.now }
+{
+    match tokens {
+        [first, ..] => symbol_start(*first),
+        [] => 0,
+    }
+}
+
+/// A list of one item.
+pub(crate) fn single<T: Drop>(alloc: Global, item: T) -> Result<Items<T>, AllocError>
+    ensures { IfOk result (λ items. items ≡ item ∷ []) }
+{
+    let mut items = Items::new(alloc);
+    items.push(item)?;
+    Ok(items)
 }

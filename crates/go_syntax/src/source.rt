@@ -19,6 +19,8 @@ fn keyword_symbol(keyword: Keyword, at: u32) -> Symbol
         Keyword::Chan => Symbol::Chan(at),
         Keyword::Map => Symbol::Map(at),
         Keyword::Struct => Symbol::Struct(at),
+        Keyword::Func => Symbol::Func(at),
+        Keyword::Interface => Symbol::Interface(at),
         _ => Symbol::Other(at),
     }
 }
@@ -115,6 +117,8 @@ fn single_symbol(byte: u8, at: u32) -> Symbol
         Symbol::Star(at)
     } else if byte == b'|' {
         Symbol::Bar(at)
+    } else if byte == b'~' {
+        Symbol::Tilde(at)
     } else {
         operator_symbol(single_operator(byte), at)
     }
@@ -136,7 +140,7 @@ fn pair_symbol(first: u8, second: Option<u8>, at: u32) -> Symbol
     }
 }
 
-/// What the grammar sees of an operator or punctuation of three bytes.
+/// What the grammar sees of an operator of three bytes: only the dots are one that begins with a dot.
 fn triple_symbol(first: u8, at: u32) -> Symbol
     ensures { result ≡ triple_symbol first at }
 {

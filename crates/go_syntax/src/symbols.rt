@@ -60,6 +60,7 @@ pub enum Symbol {
     CloseBrace(u32),
     Star(u32),
     Bar(u32),
+    /// Three dots.
     Ellipsis(u32),
     /// An operator of expressions other than the star and the bar.
     Operator(Operator, u32),
@@ -72,6 +73,9 @@ pub enum Symbol {
     Chan(u32),
     Map(u32),
     Struct(u32),
+    Func(u32),
+    Interface(u32),
+    Tilde(u32),
     /// A token that stands in no declaration of this grammar.
     Other(u32),
 }

@@ -5,7 +5,7 @@ use std::test::Fail;
 
 /// Sources, each with its tree, or with its first fault. They follow from the grammar, and were written by
 /// hand.
-const SOURCES: [(&[u8], &str); 42] = [
+const SOURCES: [(&[u8], &str); 70] = [
     (b"package p", "ok 0 0"),
     (b"package p\n", "ok 0 0"),
     (b"package p; import \"a\"", "ok 1 0"),
@@ -31,6 +31,70 @@ const SOURCES: [(&[u8], &str); 42] = [
         b"package p\ntype A struct {\na struct {\nB\n}\n}\n",
         "ok 0 1",
     ),
+    (b"package p; type A func()", "ok 0 1"),
+    (b"package p; type A func(B) C", "ok 0 1"),
+    (b"package p; type A func() ()", "ok 0 1"),
+    (
+        b"package p; type A func(a, b B, c ...C) (d D, e E,)",
+        "ok 0 1",
+    ),
+    (b"package p; type A func(B, q.C, *D, ...E,)", "ok 0 1"),
+    (b"package p; type A func(a func(B), b []C, c (D))", "ok 0 1"),
+    (b"package p; type A func() func() (B)", "ok 0 1"),
+    (b"package p; type A func() chan func()", "ok 0 1"),
+    (b"package p; var a func(), b B", "Unexpected { at: 23 }"),
+    (
+        b"package p; type A func(a, b ...B)",
+        "Unexpected { at: 28 }",
+    ),
+    (b"package p; type A func(a B, C)", "Unexpected { at: 29 }"),
+    (
+        b"package p; type A func(a, q.B, c C)",
+        "Unexpected { at: 33 }",
+    ),
+    (
+        b"package p; type A func(a ...B, c C)",
+        "Unexpected { at: 31 }",
+    ),
+    (b"package p; type A func() (...B)", "Unexpected { at: 26 }"),
+    (
+        b"package p; type A func() (a ...B)",
+        "Unexpected { at: 28 }",
+    ),
+    (b"package p; type A func(,)", "Unexpected { at: 23 }"),
+    (b"package p; type A func(a,,)", "Unexpected { at: 25 }"),
+    (b"package p; type A func", "Unexpected { at: 22 }"),
+    (b"package p; type A interface {}", "ok 0 1"),
+    (
+        b"package p; type A interface { M(); N(a B) (C, D); q.E; F }",
+        "ok 0 1",
+    ),
+    (
+        b"package p; type A interface { B | ~C | *D; ~E; ~[]F | q.G }",
+        "ok 0 1",
+    ),
+    (
+        b"package p\ntype A interface {\nM()\ninterface {\nN()\n}\n}\n",
+        "ok 0 1",
+    ),
+    (
+        b"package p; type A interface { M(),}",
+        "Unexpected { at: 33 }",
+    ),
+    (
+        b"package p; type A interface { B | }",
+        "Unexpected { at: 34 }",
+    ),
+    (
+        b"package p; type A interface { ~~B }",
+        "Unexpected { at: 31 }",
+    ),
+    (
+        b"package p; type A interface { M N }",
+        "Unexpected { at: 32 }",
+    ),
+    (b"package p; type A B | C", "Unexpected { at: 20 }"),
+    (b"package p; type A ~B", "Unexpected { at: 18 }"),
     (b"", "Unexpected { at: 0 }"),
     (b"package", "Unexpected { at: 7 }"),
     (b"package 1", "Unexpected { at: 8 }"),
@@ -94,28 +158,55 @@ fn sources_have_trees_or_faults(rt: HostRuntime) -> Result<(), Fail> {
     Ok(())
 }
 
-/// What is shown of a type in which one byte comes so many times before a name.
-fn repeated(alloc: Global, byte: u8, times: usize) -> Result<String, AllocError> {
+/// What is shown of a type in which one byte comes so many times before the rest.
+fn repeated(alloc: Global, byte: u8, times: usize, rest: &[u8]) -> Result<String, AllocError> {
     let mut src = Vec::new(alloc);
     src.extend_from_slice(b"package p; type A ")?;
     for _ in 0..times {
         src.push(byte)?;
     }
-    src.push(b'B')?;
+    src.extend_from_slice(rest)?;
     shown(alloc, &src)
 }
 
 #[test]
 fn a_thousand_nodes_are_read_and_no_more(rt: HostRuntime) -> Result<(), Fail> {
-    assert_eq!(rt; repeated(rt.alloc(), b'*', 999)?.as_str(), "ok 0 1");
+    assert_eq!(rt; repeated(rt.alloc(), b'*', 999, b"B")?.as_str(), "ok 0 1");
     assert_eq!(rt;
-        repeated(rt.alloc(), b'*', 1000)?.as_str(),
+        repeated(rt.alloc(), b'*', 1000, b"B")?.as_str(),
         "LeftOut { at: 1018, what: Depth }"
     );
     assert_eq!(rt;
-        repeated(rt.alloc(), b'(', 1000)?.as_str(),
+        repeated(rt.alloc(), b'(', 1000, b"B")?.as_str(),
         "LeftOut { at: 1018, what: Depth }"
     );
+    Ok(())
+}
+
+/// Types in which a path has 1,000 nodes, or more: each with the token that shows it.
+const DEEP: [(usize, &[u8], &str); 6] = [
+    (998, b"interface { B }", "ok 0 1"),
+    (
+        998,
+        b"interface { B | C }",
+        "LeftOut { at: 1030, what: Depth }",
+    ),
+    (
+        998,
+        b"interface { ~B }",
+        "LeftOut { at: 1029, what: Depth }",
+    ),
+    (998, b"func(B, C)", "ok 0 1"),
+    (999, b"func(B, C)", "LeftOut { at: 1026, what: Depth }"),
+    (999, b"func() B", "LeftOut { at: 1024, what: Depth }"),
+];
+
+#[test]
+fn the_token_that_shows_the_depth_counts(rt: HostRuntime) -> Result<(), Fail> {
+    for (times, rest, expected) in &DEEP {
+        let found = repeated(rt.alloc(), b'*', *times, rest)?;
+        assert_eq!(rt; found.as_str(), *expected, "of {times} and {rest:?}");
+    }
     Ok(())
 }
 

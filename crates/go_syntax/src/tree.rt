@@ -53,6 +53,42 @@ pub struct FieldExpr {
     pub at: u32,
 }
 
+/// Parameters that share a type, or one without a name, which has none in `names`. They begin at `at`.
+#[cycle(syntax)]
+#[derive(Debug, Drop)]
+pub struct ParamExpr {
+    pub names: Items<Ident>,
+    pub variadic: bool,
+    pub ty: TypeExpr,
+    pub at: u32,
+}
+
+/// The parameters and results of a function. They begin at `at`.
+#[cycle(syntax)]
+#[derive(Debug, Drop)]
+pub struct SigExpr {
+    pub params: Items<ParamExpr>,
+    pub results: Items<ParamExpr>,
+    pub at: u32,
+}
+
+/// A term of a union, with `~` or without. It begins at `at`.
+#[cycle(syntax)]
+#[derive(Debug, Drop)]
+pub struct TermExpr {
+    pub tilde: bool,
+    pub ty: TypeExpr,
+    pub at: u32,
+}
+
+/// An element of an interface. It begins at `at`.
+#[cycle(syntax)]
+#[derive(Debug, Drop)]
+pub enum ElemExpr {
+    Method { name: Ident, sig: SigExpr, at: u32 },
+    Embedded { ty: TypeExpr, at: u32 },
+}
+
 /// A type as it is written. It begins at `at`.
 #[cycle(syntax)]
 #[derive(Debug, Drop)]
@@ -90,8 +126,21 @@ pub enum TypeExpr {
         ty: Boxed<TypeExpr>,
         at: u32,
     },
+    Func {
+        sig: SigExpr,
+        at: u32,
+    },
     Struct {
         fields: Items<FieldExpr>,
+        at: u32,
+    },
+    Interface {
+        elems: Items<ElemExpr>,
+        at: u32,
+    },
+    /// Terms with `|` between each two, or one term with `~`.
+    Union {
+        terms: Items<TermExpr>,
         at: u32,
     },
 }

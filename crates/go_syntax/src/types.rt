@@ -1,11 +1,13 @@
 ghost use Rattle.std.specs.Prelude.{◌≡◌, ◌<◌, Err};
-ghost use Rattle.go_syntax.specs.Reading.{Exactly, Gives, row, is_close_brace};
-ghost use Rattle.go_syntax.specs.Types.{no_type, embedded_ident, star_by, star_at, embedded_by, shared_by, more_names, first_by, field_by, struct_by, bracket_by, map_by, chan_by, type_by, type_at};
+ghost use Rattle.go_syntax.specs.Reading.{Exactly, Gives};
+ghost use Rattle.go_syntax.specs.Types.{no_type, embedded_ident, star_by, star_at, embedded_by, shared_by, first_by, field_by, fields_at, struct_by, paren_by, bracket_by, map_by, chan_by, receive_by, func_by, type_by, type_at, lower_at};
 
+use crate::elements::interface_type;
 use crate::expressions::expression;
 use crate::faults::{Fault, Stop};
 use crate::names::{dotted, more_names, tag};
-use crate::reading::{Kind, ident, past, starts};
+use crate::params::signature;
+use crate::reading::{Kind, ident, past, single, starts};
 use crate::symbols::{Ident, Symbol};
 use crate::tree::{FieldExpr, TypeExpr};
 use sqlite_items::{Boxed, Items};
@@ -41,7 +43,7 @@ fn embedded_pointer(
     at: u32,
     tokens: &[Symbol],
     left: usize,
-) -> Result<(FieldExpr, &[Symbol]), Stop>
+) -> Result<((FieldExpr, usize), &[Symbol]), Stop>
     ensures { Gives (λ x. (x.0, x.1.now)) result (star_by left at tokens.now) }
 {
     let (first, rest) = embedded_ident(tokens, left)?;
@@ -57,7 +59,7 @@ fn embedded_pointer(
         tag,
         at,
     };
-    Ok((field, rest))
+    Ok(((field, left.saturating_sub(1)), rest))
 }
 
 /// An embedded pointer, after its star, which takes one of the nodes that are left.
@@ -66,20 +68,21 @@ fn star_field(
     at: u32,
     tokens: &[Symbol],
     left: usize,
-) -> Result<(FieldExpr, &[Symbol]), Stop>
+) -> Result<((FieldExpr, usize), &[Symbol]), Stop>
     requires { 0 < left }
     ensures { Gives (λ x. (x.0, x.1.now)) result (star_at left at tokens.now) }
 {
     embedded_pointer(alloc, at, tokens, left - 1)
 }
 
-/// An embedded type, after its first identifier.
+/// An embedded type, after its first identifier, where this many nodes more would fit.
 fn embedded_name(
     alloc: Global,
     first: Ident,
     tokens: &[Symbol],
-) -> Result<(FieldExpr, &[Symbol]), Fault>
-    ensures { Exactly (λ x. (x.0, x.1.now)) result (embedded_by first tokens.now) }
+    fit: usize,
+) -> Result<((FieldExpr, usize), &[Symbol]), Fault>
+    ensures { Exactly (λ x. (x.0, x.1.now)) result (embedded_by fit first tokens.now) }
 {
     let (name, rest) = dotted(first, tokens)?;
     let (tag, rest) = tag(rest);
@@ -89,7 +92,7 @@ fn embedded_name(
         tag,
         at: name.at,
     };
-    Ok((field, rest))
+    Ok(((field, fit), rest))
 }
 
 /// The type and tag of a field, after its names.
@@ -100,13 +103,13 @@ fn shared_field(
     at: u32,
     tokens: &[Symbol],
     left: usize,
-) -> Result<(FieldExpr, &[Symbol]), Stop>
+) -> Result<((FieldExpr, usize), &[Symbol]), Stop>
     ensures { Gives (λ x. (x.0, x.1.now)) result (shared_by (type_at left) names at tokens.now) }
 {
-    let (ty, rest) = type_expr(alloc, tokens, left)?;
+    let ((ty, fit), rest) = type_expr(alloc, tokens, left)?;
     let (tag, rest) = tag(rest);
     let field = FieldExpr { names, ty, tag, at };
-    Ok((field, rest))
+    Ok(((field, fit), rest))
 }
 
 /// A field, after its first identifier.
@@ -116,7 +119,7 @@ fn first_field(
     first: Ident,
     tokens: &[Symbol],
     left: usize,
-) -> Result<(FieldExpr, &[Symbol]), Stop>
+) -> Result<((FieldExpr, usize), &[Symbol]), Stop>
     ensures { Gives (λ x. (x.0, x.1.now)) result (first_by left (type_at left) first tokens.now) }
 {
     if let Ok(rest) = past(Kind::Comma, tokens) {
@@ -127,16 +130,19 @@ fn first_field(
         if left == 0 {
             return Err(Stop::At(Fault::Deep(tokens.len())));
         }
-        return Ok(embedded_name(alloc, first, tokens)?);
+        return Ok(embedded_name(alloc, first, tokens, left - 1)?);
     }
-    let mut names = Items::new(alloc);
-    names.push(first)?;
+    let names = single(alloc, first)?;
     shared_field(alloc, names, first.start, tokens, left)
 }
 
 /// A field of a struct.
 #[cycle(types)]
-fn one_field(alloc: Global, tokens: &[Symbol], left: usize) -> Result<(FieldExpr, &[Symbol]), Stop>
+fn one_field(
+    alloc: Global,
+    tokens: &[Symbol],
+    left: usize,
+) -> Result<((FieldExpr, usize), &[Symbol]), Stop>
     ensures { Gives (λ x. (x.0, x.1.now)) result (field_by left (type_at left) tokens.now) }
 {
     let [first, rest @ ..] = tokens else {
@@ -160,19 +166,21 @@ fn fields(
     alloc: Global,
     tokens: &[Symbol],
     left: usize,
-) -> Result<(Items<FieldExpr>, &[Symbol]), Stop>
-    ensures { Gives (λ x. (x.0, x.1.now)) result (row is_close_brace (field_by left (type_at left)) tokens.now) }
+) -> Result<((Items<FieldExpr>, usize), &[Symbol]), Stop>
+    ensures { Gives (λ x. (x.0, x.1.now)) result (fields_at left (type_at left) tokens.now) }
 {
     let mut found = Items::new(alloc);
+    let mut fit = left;
     let mut rest = tokens;
     loop {
         if let Ok(after) = past(Kind::CloseBrace, rest) {
-            return Ok((found, after));
+            return Ok(((found, fit), after));
         }
-        let (field, behind) = one_field(alloc, rest, left)?;
+        let ((field, inside), behind) = one_field(alloc, rest, left)?;
+        fit = fit.min(inside);
         found.push(field)?;
         if let Ok(after) = past(Kind::CloseBrace, behind) {
-            return Ok((found, after));
+            return Ok(((found, fit), after));
         }
         rest = past(Kind::Semicolon, behind)?;
     }
@@ -185,12 +193,28 @@ fn struct_type(
     at: u32,
     tokens: &[Symbol],
     left: usize,
-) -> Result<(TypeExpr, &[Symbol]), Stop>
+) -> Result<((TypeExpr, usize), &[Symbol]), Stop>
     ensures { Gives (λ x. (x.0, x.1.now)) result (struct_by left (type_at left) at tokens.now) }
 {
     let rest = past(Kind::OpenBrace, tokens)?;
-    let (fields, rest) = fields(alloc, rest, left)?;
-    Ok((TypeExpr::Struct { fields, at }, rest))
+    let ((fields, fit), rest) = fields(alloc, rest, left)?;
+    Ok(((TypeExpr::Struct { fields, at }, fit), rest))
+}
+
+/// A type in parentheses, after the first.
+#[cycle(types)]
+fn paren_type(
+    alloc: Global,
+    at: u32,
+    tokens: &[Symbol],
+    left: usize,
+) -> Result<((TypeExpr, usize), &[Symbol]), Stop>
+    ensures { Gives (λ x. (x.0, x.1.now)) result (paren_by (type_at left) at tokens.now) }
+{
+    let ((ty, fit), rest) = type_expr(alloc, tokens, left)?;
+    let rest = past(Kind::CloseParen, rest)?;
+    let ty = Boxed::new(alloc, ty)?;
+    Ok(((TypeExpr::Paren { ty, at }, fit), rest))
 }
 
 /// A slice or an array, after its bracket.
@@ -200,20 +224,20 @@ fn bracketed(
     at: u32,
     tokens: &[Symbol],
     left: usize,
-) -> Result<(TypeExpr, &[Symbol]), Stop>
+) -> Result<((TypeExpr, usize), &[Symbol]), Stop>
     ensures { Gives (λ x. (x.0, x.1.now)) result (bracket_by left (type_at left) at tokens.now) }
 {
     if let Ok(rest) = past(Kind::CloseBracket, tokens) {
-        let (ty, rest) = type_expr(alloc, rest, left)?;
+        let ((ty, fit), rest) = type_expr(alloc, rest, left)?;
         let ty = Boxed::new(alloc, ty)?;
-        return Ok((TypeExpr::Slice { ty, at }, rest));
+        return Ok(((TypeExpr::Slice { ty, at }, fit), rest));
     }
-    let ((length, _), rest) = expression(alloc, tokens, 5, left)?;
+    let ((length, spare), rest) = expression(alloc, tokens, 5, left)?;
     let rest = past(Kind::CloseBracket, rest)?;
-    let (ty, rest) = type_expr(alloc, rest, left)?;
+    let ((ty, fit), rest) = type_expr(alloc, rest, left)?;
     let length = Boxed::new(alloc, length.expr)?;
     let ty = Boxed::new(alloc, ty)?;
-    Ok((TypeExpr::Array { length, ty, at }, rest))
+    Ok(((TypeExpr::Array { length, ty, at }, spare.min(fit)), rest))
 }
 
 /// A map type, after its keyword.
@@ -223,16 +247,16 @@ fn map_type(
     at: u32,
     tokens: &[Symbol],
     left: usize,
-) -> Result<(TypeExpr, &[Symbol]), Stop>
+) -> Result<((TypeExpr, usize), &[Symbol]), Stop>
     ensures { Gives (λ x. (x.0, x.1.now)) result (map_by (type_at left) at tokens.now) }
 {
     let rest = past(Kind::OpenBracket, tokens)?;
-    let (key, rest) = type_expr(alloc, rest, left)?;
+    let ((key, fit), rest) = type_expr(alloc, rest, left)?;
     let rest = past(Kind::CloseBracket, rest)?;
-    let (ty, rest) = type_expr(alloc, rest, left)?;
+    let ((ty, inside), rest) = type_expr(alloc, rest, left)?;
     let key = Boxed::new(alloc, key)?;
     let ty = Boxed::new(alloc, ty)?;
-    Ok((TypeExpr::MapOf { key, ty, at }, rest))
+    Ok(((TypeExpr::MapOf { key, ty, at }, fit.min(inside)), rest))
 }
 
 /// A channel type, after `chan`.
@@ -242,11 +266,11 @@ fn chan_type(
     at: u32,
     tokens: &[Symbol],
     left: usize,
-) -> Result<(TypeExpr, &[Symbol]), Stop>
+) -> Result<((TypeExpr, usize), &[Symbol]), Stop>
     ensures { Gives (λ x. (x.0, x.1.now)) result (chan_by (type_at left) at tokens.now) }
 {
     if let Ok(rest) = past(Kind::Arrow, tokens) {
-        let (ty, rest) = type_expr(alloc, rest, left)?;
+        let ((ty, fit), rest) = type_expr(alloc, rest, left)?;
         let ty = Boxed::new(alloc, ty)?;
         let (receive, send) = (false, true);
         let chan = TypeExpr::Chan {
@@ -255,9 +279,9 @@ fn chan_type(
             ty,
             at,
         };
-        return Ok((chan, rest));
+        return Ok(((chan, fit), rest));
     }
-    let (ty, rest) = type_expr(alloc, tokens, left)?;
+    let ((ty, fit), rest) = type_expr(alloc, tokens, left)?;
     let ty = Boxed::new(alloc, ty)?;
     let (receive, send) = (true, true);
     let chan = TypeExpr::Chan {
@@ -266,13 +290,54 @@ fn chan_type(
         ty,
         at,
     };
-    Ok((chan, rest))
+    Ok(((chan, fit), rest))
+}
+
+/// A channel type, after the arrow before `chan`.
+#[cycle(types)]
+fn receive_type(
+    alloc: Global,
+    at: u32,
+    tokens: &[Symbol],
+    left: usize,
+) -> Result<((TypeExpr, usize), &[Symbol]), Stop>
+    ensures { Gives (λ x. (x.0, x.1.now)) result (receive_by (type_at left) at tokens.now) }
+{
+    let rest = past(Kind::Chan, tokens)?;
+    let ((ty, fit), rest) = type_expr(alloc, rest, left)?;
+    let ty = Boxed::new(alloc, ty)?;
+    let (receive, send) = (true, false);
+    let chan = TypeExpr::Chan {
+        receive,
+        send,
+        ty,
+        at,
+    };
+    Ok(((chan, fit), rest))
+}
+
+/// A function type, after its keyword.
+#[cycle(types)]
+fn func_type(
+    alloc: Global,
+    at: u32,
+    tokens: &[Symbol],
+    left: usize,
+) -> Result<((TypeExpr, usize), &[Symbol]), Stop>
+    ensures { Gives (λ x. (x.0, x.1.now)) result (func_by left (type_at left) at tokens.now) }
+{
+    let ((sig, fit), rest) = signature(alloc, tokens, left)?;
+    Ok(((TypeExpr::Func { sig, at }, fit), rest))
 }
 
 /// A type, where this many nodes are left for the types inside.
 #[cycle(types)]
-fn type_inside(alloc: Global, tokens: &[Symbol], left: usize) -> Result<(TypeExpr, &[Symbol]), Stop>
-    ensures { Gives (λ x. (x.0, x.1.now)) result (type_by left (type_at left) tokens.now) }
+fn type_inside(
+    alloc: Global,
+    tokens: &[Symbol],
+    left: usize,
+) -> Result<((TypeExpr, usize), &[Symbol]), Stop>
+    ensures { Gives (λ x. (x.0, x.1.now)) result (type_by left (type_at left) (lower_at left) tokens.now) }
 {
     let [first, rest @ ..] = tokens else {
         return Err(Stop::At(Fault::Unexpected(0)));
@@ -280,51 +345,51 @@ fn type_inside(alloc: Global, tokens: &[Symbol], left: usize) -> Result<(TypeExp
     match *first {
         Symbol::Ident(name) => {
             let (name, rest) = dotted(name, rest)?;
-            Ok((TypeExpr::Name { name, at: name.at }, rest))
+            Ok(((TypeExpr::Name { name, at: name.at }, left), rest))
         }
-        Symbol::OpenParen(at) => {
-            let (ty, rest) = type_expr(alloc, rest, left)?;
-            let rest = past(Kind::CloseParen, rest)?;
-            let ty = Boxed::new(alloc, ty)?;
-            Ok((TypeExpr::Paren { ty, at }, rest))
-        }
+        Symbol::OpenParen(at) => paren_type(alloc, at, rest, left),
         Symbol::Star(at) => {
-            let (ty, rest) = type_expr(alloc, rest, left)?;
+            let ((ty, fit), rest) = type_expr(alloc, rest, left)?;
             let ty = Boxed::new(alloc, ty)?;
-            Ok((TypeExpr::Pointer { ty, at }, rest))
+            Ok(((TypeExpr::Pointer { ty, at }, fit), rest))
         }
         Symbol::OpenBracket(at) => bracketed(alloc, at, rest, left),
         Symbol::Map(at) => map_type(alloc, at, rest, left),
         Symbol::Chan(at) => chan_type(alloc, at, rest, left),
-        Symbol::Arrow(at) => {
-            let rest = past(Kind::Chan, rest)?;
-            let (ty, rest) = type_expr(alloc, rest, left)?;
-            let ty = Boxed::new(alloc, ty)?;
-            let (receive, send) = (true, false);
-            let chan = TypeExpr::Chan {
-                receive,
-                send,
-                ty,
-                at,
-            };
-            Ok((chan, rest))
-        }
+        Symbol::Arrow(at) => receive_type(alloc, at, rest, left),
+        Symbol::Func(at) => func_type(alloc, at, rest, left),
         Symbol::Struct(at) => struct_type(alloc, at, rest, left),
+        Symbol::Interface(at) => interface_type(alloc, at, rest, left),
         _ => Err(Stop::At(Fault::Unexpected(tokens.len()))),
     }
 }
 
-/// A type with up to this many nodes on a path.
+/// A type with up to this many nodes on a path, and how many more its longest path might have.
 #[cycle(types)]
 pub(crate) fn type_expr(
     alloc: Global,
     tokens: &[Symbol],
     left: usize,
-) -> Result<(TypeExpr, &[Symbol]), Stop>
+) -> Result<((TypeExpr, usize), &[Symbol]), Stop>
     ensures { Gives (λ x. (x.0, x.1.now)) result (type_at left tokens.now) }
 {
     if left == 0 {
         return Err(Stop::At(no_type(tokens)));
     }
     type_inside(alloc, tokens, left - 1)
+}
+
+/// A type that stands a node deeper.
+#[cycle(types)]
+pub(crate) fn lower_type(
+    alloc: Global,
+    tokens: &[Symbol],
+    left: usize,
+) -> Result<((TypeExpr, usize), &[Symbol]), Stop>
+    ensures { Gives (λ x. (x.0, x.1.now)) result (lower_at left tokens.now) }
+{
+    if left == 0 {
+        return Err(Stop::At(no_type(tokens)));
+    }
+    type_expr(alloc, tokens, left - 1)
 }

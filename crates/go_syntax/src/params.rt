@@ -1,0 +1,455 @@
+ghost use Rattle.std.specs.Prelude.{◌≡◌, ◌≤◌, [], false, map, Err, IfOk};
+ghost use Rattle.go_syntax.specs.Reading.{Gives, with_fit};
+ghost use Rattle.go_syntax.specs.Params.{bare, item, param_type, type_param, unnamed_param, lone_param, first_param, param_at, params_row, params_end, no_bare, after_bare, types_by, names_by, named_by, after_ident, params_from, results_by, sig_by, sig_at};
+ghost use Rattle.go_syntax.specs.Grammar.{named};
+ghost use Rattle.go_syntax.specs.Types.{type_at};
+
+use crate::faults::{Fault, Stop};
+use crate::names::{dotted, more_names};
+use crate::reading::{Kind, ident, past, single, start, starts};
+use crate::symbols::{Ident, Symbol};
+use crate::tree::{NameExpr, ParamExpr, SigExpr, TypeExpr};
+use crate::types::type_expr;
+use sqlite_items::Items;
+use std::alloc::{AllocError, Global};
+
+/// A parameter, how many more nodes its longest path might have, and whether it has to be the last.
+#[derive(Debug, Drop)]
+pub(crate) struct Param {
+    pub(crate) expr: ParamExpr,
+    pub(crate) fit: usize,
+    pub(crate) last: bool,
+}
+
+/// A parameter that is a type's name.
+fn bare_param(alloc: Global, name: Ident) -> ParamExpr
+    ensures { result ≡ bare name }
+{
+    let ty = TypeExpr::Name {
+        name: NameExpr {
+            package: None,
+            name,
+            at: name.start,
+        },
+        at: name.start,
+    };
+    ParamExpr {
+        names: Items::new(alloc),
+        variadic: false,
+        ty,
+        at: name.start,
+    }
+}
+
+/// A parameter that is the name of a type, where this many nodes more would fit.
+fn name_param(alloc: Global, name: NameExpr, at: u32, fit: usize) -> Param
+    ensures { result ≡ item [] false (named name, fit) at }
+{
+    let ty = TypeExpr::Name { name, at: name.at };
+    let expr = ParamExpr {
+        names: Items::new(alloc),
+        variadic: false,
+        ty,
+        at,
+    };
+    let last = false;
+    Param { expr, fit, last }
+}
+
+/// A parameter for each name of a type.
+fn bare_list(alloc: Global, names: &[Ident]) -> Result<Vec<ParamExpr>, AllocError>
+    ensures { IfOk result (λ params. params.items ≡ map bare names.now) }
+{
+    names
+        .iter()
+        .map(|name| bare_param(alloc, *name))
+        .collect(alloc)
+}
+
+/// Parameters that are the names of types.
+fn bare_params(alloc: Global, names: &[Ident]) -> Result<Items<ParamExpr>, AllocError>
+    ensures { IfOk result (λ params. params ≡ map bare names.now) }
+{
+    let params = bare_list(alloc, names)?;
+    Ok(Items::from_vec(params))
+}
+
+/// Why no types are read where no node is left for the identifiers before these tokens.
+fn no_bare(variadic: bool, tokens: &[Symbol]) -> Fault
+    ensures { no_bare variadic tokens.now ≡ Err result }
+{
+    let kind = if variadic {
+        Kind::ListEndOrDots
+    } else {
+        Kind::ListEnd
+    };
+    if starts(kind, tokens) {
+        Fault::Deep(tokens.len())
+    } else {
+        Fault::Unexpected(tokens.len())
+    }
+}
+
+/// The type of a parameter, after its names and the dots.
+#[cycle(types)]
+fn param_type(
+    alloc: Global,
+    names: Items<Ident>,
+    variadic: bool,
+    at: u32,
+    tokens: &[Symbol],
+    left: usize,
+) -> Result<(Param, &[Symbol]), Stop>
+    ensures { Gives (λ x. (x.0, x.1.now)) result (param_type (type_at left) names variadic at tokens.now) }
+{
+    let ((ty, fit), rest) = type_expr(alloc, tokens, left)?;
+    let expr = ParamExpr {
+        names,
+        variadic,
+        ty,
+        at,
+    };
+    let last = variadic;
+    Ok((Param { expr, fit, last }, rest))
+}
+
+/// A parameter that is a type.
+#[cycle(types)]
+fn type_param(alloc: Global, tokens: &[Symbol], left: usize) -> Result<(Param, &[Symbol]), Stop>
+    ensures { Gives (λ x. (x.0, x.1.now)) result (type_param (type_at left) tokens.now) }
+{
+    let at = start(tokens);
+    let ((ty, fit), rest) = type_expr(alloc, tokens, left)?;
+    let expr = ParamExpr {
+        names: Items::new(alloc),
+        variadic: false,
+        ty,
+        at,
+    };
+    let last = false;
+    Ok((Param { expr, fit, last }, rest))
+}
+
+/// A parameter without a name.
+#[cycle(types)]
+fn unnamed_param(
+    alloc: Global,
+    variadic: bool,
+    tokens: &[Symbol],
+    left: usize,
+) -> Result<(Param, &[Symbol]), Stop>
+    ensures { Gives (λ x. (x.0, x.1.now)) result (unnamed_param variadic (type_at left) tokens.now) }
+{
+    if !variadic {
+        return type_param(alloc, tokens, left);
+    }
+    if let Ok(rest) = past(Kind::Ellipsis, tokens) {
+        let at = start(tokens);
+        return param_type(alloc, Items::new(alloc), true, at, rest, left);
+    }
+    type_param(alloc, tokens, left)
+}
+
+/// A parameter with one name, after the name.
+#[cycle(types)]
+fn lone_param(
+    alloc: Global,
+    variadic: bool,
+    name: Ident,
+    tokens: &[Symbol],
+    left: usize,
+) -> Result<(Param, &[Symbol]), Stop>
+    ensures { Gives (λ x. (x.0, x.1.now)) result (lone_param variadic (type_at left) name tokens.now) }
+{
+    let names = single(alloc, name)?;
+    if !variadic {
+        return param_type(alloc, names, false, name.start, tokens, left);
+    }
+    if let Ok(rest) = past(Kind::Ellipsis, tokens) {
+        return param_type(alloc, names, true, name.start, rest, left);
+    }
+    param_type(alloc, names, false, name.start, tokens, left)
+}
+
+/// A parameter with names, after the first of them.
+#[cycle(types)]
+fn first_param(
+    alloc: Global,
+    variadic: bool,
+    name: Ident,
+    tokens: &[Symbol],
+    left: usize,
+) -> Result<(Param, &[Symbol]), Stop>
+    ensures { Gives (λ x. (x.0, x.1.now)) result (first_param variadic (type_at left) name tokens.now) }
+{
+    if let Ok(rest) = past(Kind::Comma, tokens) {
+        let (names, rest) = more_names(alloc, name, rest)?;
+        return param_type(alloc, names, false, name.start, rest, left);
+    }
+    lone_param(alloc, variadic, name, tokens, left)
+}
+
+/// A parameter, with names or without.
+#[cycle(types)]
+fn one_param(
+    alloc: Global,
+    named: bool,
+    variadic: bool,
+    tokens: &[Symbol],
+    left: usize,
+) -> Result<(Param, &[Symbol]), Stop>
+    ensures { Gives (λ x. (x.0, x.1.now)) result (param_at named variadic (type_at left) tokens.now) }
+{
+    if named {
+        let (name, rest) = ident(tokens)?;
+        return first_param(alloc, variadic, name, rest, left);
+    }
+    unnamed_param(alloc, variadic, tokens, left)
+}
+
+/// Parameters up to the parenthesis that closes, after those that were found.
+#[cycle(types)]
+fn param_row(
+    alloc: Global,
+    found: (Items<ParamExpr>, usize),
+    named: bool,
+    variadic: bool,
+    tokens: &[Symbol],
+    left: usize,
+) -> Result<((Items<ParamExpr>, usize), &[Symbol]), Stop>
+    requires { found.1 ≤ left }
+    ensures { Gives (λ x. (x.0, x.1.now)) result (with_fit found (params_row named variadic left (type_at left) tokens.now)) }
+{
+    let (mut params, mut fit) = found;
+    let mut rest = tokens;
+    loop {
+        if let Ok(after) = past(Kind::CloseParen, rest) {
+            return Ok(((params, fit), after));
+        }
+        let (param, behind) = one_param(alloc, named, variadic, rest, left)?;
+        let last = param.last;
+        fit = fit.min(param.fit);
+        params.push(param.expr)?;
+        if let Ok(after) = past(Kind::CloseParen, behind) {
+            return Ok(((params, fit), after));
+        }
+        rest = past(Kind::Comma, behind)?;
+        if last {
+            let after = past(Kind::CloseParen, rest)?;
+            return Ok(((params, fit), after));
+        }
+    }
+}
+
+/// Parameters up to the parenthesis that closes, after those that were found and one more.
+#[cycle(types)]
+fn param_end(
+    alloc: Global,
+    found: (Items<ParamExpr>, usize),
+    param: Param,
+    named: bool,
+    variadic: bool,
+    tokens: &[Symbol],
+    left: usize,
+) -> Result<((Items<ParamExpr>, usize), &[Symbol]), Stop>
+    requires { found.1 ≤ left }
+    ensures { Gives (λ x. (x.0, x.1.now)) result (with_fit found (params_end named variadic left (type_at left) param tokens.now)) }
+{
+    let (mut params, fit) = found;
+    let fit = fit.min(param.fit);
+    let last = param.last;
+    params.push(param.expr)?;
+    if let Ok(after) = past(Kind::CloseParen, tokens) {
+        return Ok(((params, fit), after));
+    }
+    let rest = past(Kind::Comma, tokens)?;
+    if last {
+        let after = past(Kind::CloseParen, rest)?;
+        return Ok(((params, fit), after));
+    }
+    param_row(alloc, (params, fit), named, variadic, rest, left)
+}
+
+/// Parameters after identifiers with a comma behind each, where no identifier comes next.
+#[cycle(types)]
+fn after_bare<'a>(
+    alloc: Global,
+    names: &[Ident],
+    variadic: bool,
+    tokens: &'a [Symbol],
+    left: usize,
+) -> Result<((Items<ParamExpr>, usize), &'a [Symbol]), Stop>
+    ensures { Gives (λ x. (x.0, x.1.now)) result (after_bare variadic left (type_at left) names.now tokens.now) }
+{
+    if names.is_empty() {
+        return param_row(
+            alloc,
+            (Items::new(alloc), left),
+            false,
+            variadic,
+            tokens,
+            left,
+        );
+    }
+    if left == 0 {
+        return Err(Stop::At(no_bare(variadic, tokens)));
+    }
+    let params = bare_params(alloc, names)?;
+    param_row(alloc, (params, left - 1), false, variadic, tokens, left)
+}
+
+/// A type's name in a list of parameters, after its first identifier and those before it.
+#[cycle(types)]
+fn named_type<'a>(
+    alloc: Global,
+    names: &[Ident],
+    name: Ident,
+    variadic: bool,
+    tokens: &'a [Symbol],
+    left: usize,
+) -> Result<((Items<ParamExpr>, usize), &'a [Symbol]), Stop>
+    ensures { Gives (λ x. (x.0, x.1.now)) result (types_by variadic left (type_at left) names.now name tokens.now) }
+{
+    if left == 0 {
+        return Err(Stop::At(Fault::Deep(tokens.len())));
+    }
+    let (ty, rest) = dotted(name, tokens)?;
+    let params = bare_params(alloc, names)?;
+    let fit = left - 1;
+    let param = name_param(alloc, ty, name.start, fit);
+    param_end(alloc, (params, fit), param, false, variadic, rest, left)
+}
+
+/// The first parameter of a list with names, after the last of its names.
+#[cycle(types)]
+fn shared_param(
+    alloc: Global,
+    names: Items<Ident>,
+    name: Ident,
+    variadic: bool,
+    tokens: &[Symbol],
+    left: usize,
+) -> Result<(Param, &[Symbol]), Stop>
+    ensures { Gives (λ x. (x.0, x.1.now)) result (names_by variadic (type_at left) names name tokens.now) }
+{
+    let Some(first) = names.get(0) else {
+        return lone_param(alloc, variadic, name, tokens, left);
+    };
+    let at = first.start;
+    let mut names = names;
+    names.push(name)?;
+    param_type(alloc, names, false, at, tokens, left)
+}
+
+/// Parameters after identifiers and one with no comma behind.
+#[cycle(types)]
+fn after_ident(
+    alloc: Global,
+    names: Items<Ident>,
+    name: Ident,
+    variadic: bool,
+    tokens: &[Symbol],
+    left: usize,
+) -> Result<((Items<ParamExpr>, usize), &[Symbol]), Stop>
+    ensures { Gives (λ x. (x.0, x.1.now)) result (after_ident variadic left (type_at left) names name tokens.now) }
+{
+    if starts(Kind::ParamEnd, tokens) {
+        return named_type(alloc, names.as_slice(), name, variadic, tokens, left);
+    }
+    let (param, rest) = shared_param(alloc, names, name, variadic, tokens, left)?;
+    param_end(
+        alloc,
+        (Items::new(alloc), left),
+        param,
+        true,
+        variadic,
+        rest,
+        left,
+    )
+}
+
+/// Parameters up to the parenthesis that closes.
+#[cycle(types)]
+fn params(
+    alloc: Global,
+    variadic: bool,
+    tokens: &[Symbol],
+    left: usize,
+) -> Result<((Items<ParamExpr>, usize), &[Symbol]), Stop>
+    ensures { Gives (λ x. (x.0, x.1.now)) result (params_from variadic left (type_at left) [] tokens.now) }
+{
+    let mut names = Items::new(alloc);
+    let mut rest = tokens;
+    loop {
+        let Ok((name, after)) = ident(rest) else {
+            return after_bare(alloc, names.as_slice(), variadic, rest, left);
+        };
+        let Ok(next) = past(Kind::Comma, after) else {
+            return after_ident(alloc, names, name, variadic, after, left);
+        };
+        names.push(name)?;
+        rest = next;
+    }
+}
+
+/// The results of a function, after its parameters.
+#[cycle(types)]
+fn results(
+    alloc: Global,
+    params: (Items<ParamExpr>, usize),
+    at: u32,
+    tokens: &[Symbol],
+    left: usize,
+) -> Result<((SigExpr, usize), &[Symbol]), Stop>
+    ensures { Gives (λ x. (x.0, x.1.now)) result (results_by left (type_at left) at params tokens.now) }
+{
+    let (params, fit) = params;
+    if let Ok(rest) = past(Kind::OpenParen, tokens) {
+        let ((results, inside), rest) = self::params(alloc, false, rest, left)?;
+        let sig = SigExpr {
+            params,
+            results,
+            at,
+        };
+        return Ok(((sig, fit.min(inside)), rest));
+    }
+    if starts(Kind::TypeStart, tokens) {
+        let (result, rest) = type_param(alloc, tokens, left)?;
+        let fit = fit.min(result.fit);
+        let results = single(alloc, result.expr)?;
+        let sig = SigExpr {
+            params,
+            results,
+            at,
+        };
+        return Ok(((sig, fit), rest));
+    }
+    let results = Items::new(alloc);
+    let sig = SigExpr {
+        params,
+        results,
+        at,
+    };
+    Ok(((sig, fit), tokens))
+}
+
+/// The parameters and results of a function.
+#[cycle(types)]
+pub(crate) fn signature(
+    alloc: Global,
+    tokens: &[Symbol],
+    left: usize,
+) -> Result<((SigExpr, usize), &[Symbol]), Stop>
+    ensures { Gives (λ x. (x.0, x.1.now)) result (sig_at left (type_at left) tokens.now) }
+{
+    let [first, rest @ ..] = tokens else {
+        return Err(Stop::At(Fault::Unexpected(0)));
+    };
+    match *first {
+        Symbol::OpenParen(at) => {
+            let (params, rest) = params(alloc, true, rest, left)?;
+            results(alloc, params, at, rest, left)
+        }
+        _ => Err(Stop::At(Fault::Unexpected(tokens.len()))),
+    }
+}
