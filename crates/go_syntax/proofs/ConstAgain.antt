@@ -116,11 +116,11 @@ const_again n m ts x rest (c.typed j k a us i names vs ty ws xs r b w v) e =
     let begins = type_begins j vs ty (t.Assign a ∷ ws) w in
     rw (named_is n i names us vs b (no_comma vs begins), typed_is n (i ∷ names) vs begins) (typed_again n j k a i names vs ty ws xs r w v e)
 
-names_not_open : (ts : List Symbol) (names : List Ident) (rest : List Symbol) → IsNames ts names rest → starts is_open_paren ts ≡ false
+pub names_not_open : (ts : List Symbol) (names : List Ident) (rest : List Symbol) → IsNames ts names rest → starts is_open_paren ts ≡ false
 names_not_open ts names rest (names_of.one i r) = refl
 names_not_open ts names rest (names_of.more i at us ns r q) = refl
 
-names_not_close : (ts : List Symbol) (names : List Ident) (rest : List Symbol) → IsNames ts names rest → starts is_close_paren ts ≡ false
+pub names_not_close : (ts : List Symbol) (names : List Ident) (rest : List Symbol) → IsNames ts names rest → starts is_close_paren ts ≡ false
 names_not_close ts names rest (names_of.one i r) = refl
 names_not_close ts names rest (names_of.more i at us ns r q) = refl
 

@@ -1,5 +1,5 @@
 -- What the readers of declarations and files do.
-use Rattle.std.proofs.Common.{◌≡◌, ℕ, max, ◌<◌, List, [], ◌∷◌, length, Some, None, Ok, refl, sym, subst, arith}
+use Rattle.std.proofs.Common.{◌≡◌, ℕ, max, ◌<◌, true, List, [], ◌∷◌, length, Some, None, Ok, refl, sym, subst, arith}
 use Rattle.go_syntax.specs.declared.symbols.Symbol.{Symbol}
 use Rattle.go_syntax.specs.declared.symbols.Symbol.TheVariants as t
 use Rattle.go_syntax.specs.declared.symbols.Ident.{Ident}
@@ -7,21 +7,27 @@ use Rattle.go_syntax.specs.declared.symbols.Span.{Span}
 use Rattle.go_syntax.specs.declared.faults.Fault.TheVariants.{DotImport}
 use Rattle.go_syntax.specs.declared.tree.Import.{Import}
 use Rattle.go_syntax.specs.declared.tree.Top.{Top}
+use Rattle.go_syntax.specs.declared.tree.Top.TheVariants as top
+use Rattle.go_syntax.specs.declared.tree.FuncDecl.{FuncDecl}
 use Rattle.go_syntax.specs.declared.tree.SourceFile.{SourceFile}
-use Rattle.go_syntax.specs.Reading.{Reply, ◌>>=◌, past, choose, is_package, is_semicolon, is_comma, is_assign, is_import, is_var, is_type, is_const}
+use Rattle.go_syntax.specs.Reading.{Reply, ◌>>=◌, past, choose, is_package, is_semicolon, is_comma, is_assign, is_import, is_var, is_type, is_const, is_func}
 use Rattle.go_syntax.specs.Names.{IsNames, one, more, ident_at, names_at}
 use Rattle.go_syntax.specs.Types.{type_at}
+use Rattle.go_syntax.specs.Skipped.{IsSkipped, skip}
+use Rattle.go_syntax.specs.Functions.{func_at}
 use Rattle.go_syntax.specs.declared.constants.Written.{Written}
 use Rattle.go_syntax.specs.Constants.{IsConstSpec, counted, const_spec_at}
 use Rattle.go_syntax.specs.Decls as d
-use Rattle.go_syntax.specs.Decls.{import, vars, defined, alias, source_file, IsImport, IsVarSpec, IsTypeSpec, IsGroup, IsImports, IsTops, IsFileOf}
-use Rattle.go_syntax.specs.Files.{text_at, named_import, dot_import, import_at, vars_typed, vars_more, vars_first, var_spec_at, alias_by, defined_by, type_first, type_spec_at, group_at, const_group_at, decl_at, import_step, top_step, imports_at, tops_at, file_tops, file_imports, file_clause, file_name, file_front}
+use Rattle.go_syntax.specs.Decls.{import, vars, defined, alias, source_file, IsImport, IsValue, IsVarSpec, IsTypeSpec, IsGroup, IsImports, IsTops, IsFileOf}
+use Rattle.go_syntax.specs.Files.{text_at, named_import, dot_import, import_at, value_by, value_at, vars_typed, vars_rest, vars_more, vars_first, var_spec_at, alias_by, defined_by, type_first, type_spec_at, group_at, const_group_at, func_group_at, decl_at, import_step, top_step, imports_at, tops_at, file_tops, file_imports, file_clause, file_name, file_front}
 use Rattle.go_syntax.proofs.Viable.{next_is, ReadsAt, Sample, Behind, Past, After, done_reads, refuse_reads, refuse_next, refuse_end, like_reads, as_reads, cons_reads, past_reads, choose_reads_on, choose_reads, bind_reads, value_reads}
-use Rattle.go_syntax.proofs.Marks.{semicolon, comma, assign, import_word, var_word, type_word, const_word, package_word}
+use Rattle.go_syntax.proofs.Marks.{semicolon, comma, assign, import_word, var_word, type_word, const_word, func_word, package_word}
 use Rattle.go_syntax.proofs.NameReads.{IsIdent, any_ident, ident_reads, names_reads, no_names, through_value}
 use Rattle.go_syntax.proofs.Standing.{TypeAt, some_type}
 use Rattle.go_syntax.proofs.TypeReads.{type_reads}
 use Rattle.go_syntax.proofs.ConstReads.{no_const, const_reads}
+use Rattle.go_syntax.proofs.SkipReads.{SkippedAt, skip_reads}
+use Rattle.go_syntax.proofs.FuncReads.{FuncAt, func_reads}
 use Rattle.go_syntax.proofs.Rows.{Eats, eats_of, choose_same}
 use Rattle.go_syntax.proofs.Steps.{Local, steps_read}
 use Rattle.go_syntax.proofs.Groups.{Any, group_reads, decl_same, decl_reads}
@@ -67,44 +73,79 @@ no_import_here x us w = no_import_of w.0 x us w.1
 abbrev VarAt : List Symbol → Top → List Symbol → Type 0
 VarAt = Any IsVarSpec
 
-typed_reads : (n : ℕ) (i : Ident) (names : List Ident) (ts : List Symbol) → ReadsAt (After IsNames VarAt (i ∷ names)) (vars_typed n (i ∷ names)) ts (vars_typed n (i ∷ names) ts)
+-- this, with its value skipped, or with none
+abbrev SkippedOf : Top → List Symbol → Top → List Symbol → Type 0
+SkippedOf x ts y rest = (y ≡ x) × IsSkipped true ts rest
+
+abbrev ValueOf : Top → List Symbol → Top → List Symbol → Type 0
+ValueOf x ts y rest = (y ≡ x) × IsValue ts rest
+
+skipped_reads : (x : Top) (ts : List Symbol) → ReadsAt (SkippedOf x) (value_by x) ts (value_by x ts)
+skipped_reads x ts = value_reads (SkippedAt true) (SkippedOf x) (skip true []) (λ u. x) ts (λ us u rest w. (refl, w)) (skip true [] ts) (skip_reads true ts)
+
+init_reads : (x : Top) (ts : List Symbol) → ReadsAt (ValueOf x) (value_at x) ts (value_at x ts)
+init_reads x ts =
+    choose_reads is_assign (ValueOf x) assign (value_by x) (λ us. Ok (x, us)) ts
+    (λ us. as_reads (SkippedOf x) (Past assign (ValueOf x)) (value_by x) us (value_by x us) (λ vs y rest w a. (w.0, d.value a vs rest w.1)) (skipped_reads x us))
+    (λ e. done_reads (ValueOf x) (λ us. Ok (x, us)) ts x (λ tail. (refl, d.no_value tail)) (λ r e'. refl))
+
+abbrev Rest : Ident → List Ident → List Symbol → Top → List Symbol → Type 0
+Rest i names = After IsNames VarAt (i ∷ names)
+
+typed_reads : (n : ℕ) (i : Ident) (names : List Ident) (ts : List Symbol) → ReadsAt (Rest i names) (vars_typed n (i ∷ names)) ts (vars_typed n (i ∷ names) ts)
 typed_reads n i names ts =
-    value_reads TypeAt (After IsNames VarAt (i ∷ names)) (type_at n) (λ ty. vars (i ∷ names) ty.0) ts (λ us ty rest w vs v. (w.0, d.of_type w.0 vs i names us ty.0 rest v w.1)) (type_at n ts) (type_reads n ts)
+    bind_reads TypeAt (Rest i names) (type_at n) (λ ty us. value_at (vars (i ∷ names) (Some ty.0)) us) ts
+    (λ ty. record { tokens = []; made = vars (i ∷ names) (Some ty.0); stands = λ tail us w vs v. (w.0, d.of_type w.0 vs i names us ty.0 tail tail v w.1 (d.no_value tail)) })
+    (λ ty us o. as_reads (ValueOf (vars (i ∷ names) (Some ty.0))) (After TypeAt (Rest i names) ty) (value_at (vars (i ∷ names) (Some ty.0))) us (value_at (vars (i ∷ names) (Some ty.0)) us)
+    (λ vs x rest q ws w xs v. rw q.0 (w.0, d.of_type w.0 xs i names ws ty.0 vs rest v w.1 q.1)) (init_reads (vars (i ∷ names) (Some ty.0)) us))
+    (type_at n ts) (type_reads n ts)
+
+rest_reads : (n : ℕ) (i : Ident) (names : List Ident) (ts : List Symbol) → ReadsAt (Rest i names) (vars_rest n (i ∷ names)) ts (vars_rest n (i ∷ names) ts)
+rest_reads n i names ts =
+    choose_reads is_assign (Rest i names) assign (value_by (vars (i ∷ names) None)) (vars_typed n (i ∷ names)) ts
+    (λ us. as_reads (SkippedOf (vars (i ∷ names) None)) (Past assign (Rest i names)) (value_by (vars (i ∷ names) None)) us (value_by (vars (i ∷ names) None) us)
+    (λ vs x rest q a ws v. rw q.0 (0, d.of_value a ws i names vs rest v q.1)) (skipped_reads (vars (i ∷ names) None) us))
+    (λ e. typed_reads n i names ts)
 
 abbrev flat_vars : ℕ → Ident → List Symbol → Reply Top
-flat_vars n i ts = names_at ts >>= λ names. vars_typed n (i ∷ names.0) names.1
+flat_vars n i ts = names_at ts >>= λ names. vars_rest n (i ∷ names.0) names.1
 
 vars_is : (n : ℕ) (i : Ident) (ts : List Symbol) → vars_more n i ts ≡ flat_vars n i ts
-vars_is n i ts = through_value (names_at ts) (λ (names : List Ident). i ∷ names) (λ names us. vars_typed n names us)
+vars_is n i ts = through_value (names_at ts) (λ (names : List Ident). i ∷ names) (λ names us. vars_rest n names us)
 
 flat_reads : (n : ℕ) (i : Ident) (ts : List Symbol) → ReadsAt (Past comma (Behind (t.Ident i) VarAt)) (flat_vars n i) ts (flat_vars n i ts)
 flat_reads n i ts =
-    bind_reads IsNames (Past comma (Behind (t.Ident i) VarAt)) names_at (λ names us. vars_typed n (i ∷ names) us) ts
+    bind_reads IsNames (Past comma (Behind (t.Ident i) VarAt)) names_at (λ names us. vars_rest n (i ∷ names) us) ts
     (λ names. record {
       tokens = some_type.tokens;
-      made = vars (i ∷ names) some_type.made.0;
-      stands = λ tail us w c. let s = some_type.stands tail in (s.0, d.of_type s.0 (t.Ident i ∷ t.Comma c ∷ us) i names _ _ tail (more i c us names _ w) s.1);
+      made = vars (i ∷ names) (Some some_type.made.0);
+      stands = λ tail us w c. let s = some_type.stands tail in (s.0, d.of_type s.0 (t.Ident i ∷ t.Comma c ∷ us) i names _ _ tail tail (more i c us names _ w) s.1 (d.no_value tail));
     })
-    (λ names us o. as_reads (After IsNames VarAt (i ∷ names)) (After IsNames (Past comma (Behind (t.Ident i) VarAt)) names) (vars_typed n (i ∷ names)) us (vars_typed n (i ∷ names) us)
-    (λ vs f rest q ws w c. q (t.Ident i ∷ t.Comma c ∷ ws) (more i c ws names vs w)) (typed_reads n i names us))
+    (λ names us o. as_reads (Rest i names) (After IsNames (Past comma (Behind (t.Ident i) VarAt)) names) (vars_rest n (i ∷ names)) us (vars_rest n (i ∷ names) us)
+    (λ vs f rest q ws w c. q (t.Ident i ∷ t.Comma c ∷ ws) (more i c ws names vs w)) (rest_reads n i names us))
     (names_at ts) (names_reads ts)
 
 first_reads : (n : ℕ) (i : Ident) (ts : List Symbol) → ReadsAt (Behind (t.Ident i) VarAt) (vars_first n i) ts (vars_first n i ts)
 first_reads n i ts =
-    choose_reads is_comma (Behind (t.Ident i) VarAt) comma (vars_more n i) (vars_typed n (i ∷ [])) ts
+    choose_reads is_comma (Behind (t.Ident i) VarAt) comma (vars_more n i) (vars_rest n (i ∷ [])) ts
     (λ us. like_reads (Past comma (Behind (t.Ident i) VarAt)) (vars_more n i) (flat_vars n i) us (vars_more n i us) (λ r e. vars_is n i r)
     (subst (ReadsAt (Past comma (Behind (t.Ident i) VarAt)) (flat_vars n i) us) (sym (vars_is n i us)) (flat_reads n i us)))
-    (λ e. as_reads (After IsNames VarAt (i ∷ [])) (Behind (t.Ident i) VarAt) (vars_typed n (i ∷ [])) ts (vars_typed n (i ∷ []) ts) (λ us f rest q. q (t.Ident i ∷ us) (one i us)) (typed_reads n i [] ts))
+    (λ e. as_reads (Rest i []) (Behind (t.Ident i) VarAt) (vars_rest n (i ∷ [])) ts (vars_rest n (i ∷ []) ts) (λ us f rest q. q (t.Ident i ∷ us) (one i us)) (rest_reads n i [] ts))
 
 pub var_reads : (n : ℕ) (ts : List Symbol) → ReadsAt VarAt (var_spec_at n) ts (var_spec_at n ts)
 var_reads n ts =
     bind_reads IsIdent VarAt ident_at (vars_first n) ts
-    (λ i. record { tokens = some_type.tokens; made = vars (i ∷ []) some_type.made.0; stands = λ tail us e. let s = some_type.stands tail in rw e (s.0, d.of_type s.0 _ i [] _ _ tail (one i _) s.1) })
+    (λ i. record {
+      tokens = some_type.tokens;
+      made = vars (i ∷ []) (Some some_type.made.0);
+      stands = λ tail us e. let s = some_type.stands tail in rw e (s.0, d.of_type s.0 _ i [] _ _ tail tail (one i _) s.1 (d.no_value tail));
+    })
     (λ i us o. as_reads (Behind (t.Ident i) VarAt) (After IsIdent VarAt i) (vars_first n i) us (vars_first n i us) (λ vs x rest w ws e. rw e w) (first_reads n i us))
     (ident_at ts) (ident_reads ts)
 
 no_var_of : (m : ℕ) (x : Top) (us : List Symbol) → IsVarSpec m [] x us → ⊥
-no_var_of m x us (d.of_type n ts i names vs ty rest a b) = no_names (i ∷ names) vs a
+no_var_of m x us (d.of_type n ts i names vs ty ws rest a b w) = no_names (i ∷ names) vs a
+no_var_of m x us (d.of_value at ts i names vs rest a w) = no_names (i ∷ names) (t.Assign at ∷ vs) a
 
 pub no_var : (x : Top) (us : List Symbol) → VarAt [] x us → ⊥
 no_var x us w = no_var_of w.0 x us w.1
@@ -155,6 +196,13 @@ const_groups n ts =
     value_reads (Any (IsGroup IsConstSpec)) ConstsAt (group_at (const_spec_at n)) (counted 0 0) ts (λ us ws rest w. (ws, refl, w)) (group_at (const_spec_at n) ts)
     (group_reads IsConstSpec (const_spec_at n) no_const (const_reads n) ts)
 
+-- a function alone
+abbrev pub FuncsAt : List Symbol → List Top → List Symbol → Type 0
+FuncsAt ts xs rest = (f : FuncDecl) × (xs ≡ top.Func f ∷ []) × FuncAt ts f rest
+
+pub func_groups : (n : ℕ) (ts : List Symbol) → ReadsAt FuncsAt (func_group_at n) ts (func_group_at n ts)
+func_groups n ts = value_reads FuncAt FuncsAt (func_at n) (λ f. top.Func f ∷ []) ts (λ us f rest w. (f, refl, w)) (func_at n ts) (func_reads n ts)
+
 pub import_local : Local import_step
 import_local f g ts h =
     choose_same is_import (decl_at (group_at import_at) f) (decl_at (group_at import_at) g) (Ok ([], ts)) (Ok ([], ts)) ts
@@ -166,8 +214,10 @@ top_local n f g ts h =
     (λ us less. decl_same (Any (IsGroup IsVarSpec)) (group_at (var_spec_at n)) (var_groups n) f g us (λ vs fewer. h vs (omega arith)))
     (choose_same is_type (decl_at (group_at (type_spec_at n)) f) (decl_at (group_at (type_spec_at n)) g) _ _ ts
     (λ us less. decl_same (Any (IsGroup IsTypeSpec)) (group_at (type_spec_at n)) (type_groups n) f g us (λ vs fewer. h vs (omega arith)))
-    (choose_same is_const (decl_at (const_group_at n) f) (decl_at (const_group_at n) g) (Ok ([], ts)) (Ok ([], ts)) ts
-    (λ us less. decl_same ConstsAt (const_group_at n) (const_groups n) f g us (λ vs fewer. h vs (omega arith))) refl))
+    (choose_same is_const (decl_at (const_group_at n) f) (decl_at (const_group_at n) g) _ _ ts
+    (λ us less. decl_same ConstsAt (const_group_at n) (const_groups n) f g us (λ vs fewer. h vs (omega arith)))
+    (choose_same is_func (decl_at (func_group_at n) f) (decl_at (func_group_at n) g) (Ok ([], ts)) (Ok ([], ts)) ts
+    (λ us less. decl_same FuncsAt (func_group_at n) (func_groups n) f g us (λ vs fewer. h vs (omega arith))) refl)))
 
 abbrev ImportsAt : List Symbol → List Import → List Symbol → Type 0
 ImportsAt = Any IsImports
@@ -182,22 +232,33 @@ import_step_reads later ts h =
     (λ vs xs s ws ys rest w v at. (max w.0 v.0, d.imports_too w.0 v.0 at s vs ws xs ys rest w.1 v.1)) (λ rest. (0, d.no_import rest)) (λ vs fewer. h vs (omega arith)))
     (λ e. done_reads ImportsAt (λ us. Ok ([], us)) ts [] (λ tail. (0, d.no_import tail)) (λ r e'. refl))
 
--- types or constants, or no more
-abbrev types_or : ℕ → (List Symbol → Reply (List Top)) → List Symbol → Reply (List Top)
-types_or n later us = choose (past is_type us) (decl_at (group_at (type_spec_at n)) later) (choose (past is_const us) (decl_at (const_group_at n) later) (Ok ([], us)))
+-- a function, or no more; or constants; or types
+abbrev funcs_or : ℕ → (List Symbol → Reply (List Top)) → List Symbol → Reply (List Top)
+funcs_or n later us = choose (past is_func us) (decl_at (func_group_at n) later) (Ok ([], us))
 
-const_step_reads : (n : ℕ) (later : List Symbol → Reply (List Top)) (ts : List Symbol) → ((vs : List Symbol) → length vs < length ts → ReadsAt TopsAt later vs (later vs))
-    → ReadsAt TopsAt (λ us. choose (past is_const us) (decl_at (const_group_at n) later) (Ok ([], us))) ts (choose (past is_const ts) (decl_at (const_group_at n) later) (Ok ([], ts)))
-const_step_reads n later ts h =
-    choose_reads_on is_const TopsAt const_word (decl_at (const_group_at n) later) (λ us. Ok ([], us)) ts
-    (λ us less. decl_reads ConstsAt (const_group_at n) (const_groups n) TopsAt (Past const_word TopsAt) later us
-    (λ vs xs s ws ys rest w v at. rw w.1 (max w.2.0 v.0, d.consts_too w.2.0 v.0 at s vs ws w.0 ys rest w.2.1 v.1)) (λ rest. (0, d.no_top rest)) (λ vs fewer. h vs (omega arith)))
+abbrev consts_or : ℕ → (List Symbol → Reply (List Top)) → List Symbol → Reply (List Top)
+consts_or n later us = choose (past is_const us) (decl_at (const_group_at n) later) (funcs_or n later us)
+
+abbrev types_or : ℕ → (List Symbol → Reply (List Top)) → List Symbol → Reply (List Top)
+types_or n later us = choose (past is_type us) (decl_at (group_at (type_spec_at n)) later) (consts_or n later us)
+
+func_step_reads : (n : ℕ) (later : List Symbol → Reply (List Top)) (ts : List Symbol) → ((vs : List Symbol) → length vs < length ts → ReadsAt TopsAt later vs (later vs)) → ReadsAt TopsAt (funcs_or n later) ts (funcs_or n later ts)
+func_step_reads n later ts h =
+    choose_reads_on is_func TopsAt func_word (decl_at (func_group_at n) later) (λ us. Ok ([], us)) ts
+    (λ us less. decl_reads FuncsAt (func_group_at n) (func_groups n) TopsAt (Past func_word TopsAt) later us
+    (λ vs xs s ws ys rest w v at. rw w.1 (max w.2.0 v.0, d.func_too w.2.0 v.0 at s vs ws w.0 ys rest w.2.1 v.1)) (λ rest. (0, d.no_top rest)) (λ vs fewer. h vs (omega arith)))
     (λ e. done_reads TopsAt (λ us. Ok ([], us)) ts [] (λ tail. (0, d.no_top tail)) (λ r e'. refl))
 
-type_step_reads : (n : ℕ) (later : List Symbol → Reply (List Top)) (ts : List Symbol) → ((vs : List Symbol) → length vs < length ts → ReadsAt TopsAt later vs (later vs))
-    → ReadsAt TopsAt (types_or n later) ts (types_or n later ts)
+const_step_reads : (n : ℕ) (later : List Symbol → Reply (List Top)) (ts : List Symbol) → ((vs : List Symbol) → length vs < length ts → ReadsAt TopsAt later vs (later vs)) → ReadsAt TopsAt (consts_or n later) ts (consts_or n later ts)
+const_step_reads n later ts h =
+    choose_reads_on is_const TopsAt const_word (decl_at (const_group_at n) later) (funcs_or n later) ts
+    (λ us less. decl_reads ConstsAt (const_group_at n) (const_groups n) TopsAt (Past const_word TopsAt) later us
+    (λ vs xs s ws ys rest w v at. rw w.1 (max w.2.0 v.0, d.consts_too w.2.0 v.0 at s vs ws w.0 ys rest w.2.1 v.1)) (λ rest. (0, d.no_top rest)) (λ vs fewer. h vs (omega arith)))
+    (λ e. func_step_reads n later ts h)
+
+type_step_reads : (n : ℕ) (later : List Symbol → Reply (List Top)) (ts : List Symbol) → ((vs : List Symbol) → length vs < length ts → ReadsAt TopsAt later vs (later vs)) → ReadsAt TopsAt (types_or n later) ts (types_or n later ts)
 type_step_reads n later ts h =
-    choose_reads_on is_type TopsAt type_word (decl_at (group_at (type_spec_at n)) later) (λ us. choose (past is_const us) (decl_at (const_group_at n) later) (Ok ([], us))) ts
+    choose_reads_on is_type TopsAt type_word (decl_at (group_at (type_spec_at n)) later) (consts_or n later) ts
     (λ us less. decl_reads (Any (IsGroup IsTypeSpec)) (group_at (type_spec_at n)) (type_groups n) TopsAt (Past type_word TopsAt) later us
     (λ vs xs s ws ys rest w v at. (max w.0 v.0, d.types_too w.0 v.0 at s vs ws xs ys rest w.1 v.1)) (λ rest. (0, d.no_top rest)) (λ vs fewer. h vs (omega arith)))
     (λ e. const_step_reads n later ts h)

@@ -15,7 +15,7 @@ use Rattle.go_syntax.proofs.FileAgain.{file_again}
 use Rattle.go_syntax.proofs.Agreeing.{Agrees}
 
 again : (n m : ℕ) (ts : List Symbol) (f : SourceFile) → IsFileOf m ts f [] → Agrees n m f [] (file_front n ts)
-again n m ts f w = file_again n m ts f [] w refl refl refl refl
+again n m ts f w = file_again n m ts f [] w refl (record { no_var_word = refl; no_type_word = refl; no_const_word = refl; no_func_word = refl })
 
 -- ---- a file is found
 

@@ -12,6 +12,8 @@ pub mod ExprReads
 pub mod ExprTurns
 pub mod TypeReads
 pub mod Groups
+pub mod SkipReads
+pub mod FuncReads
 pub mod ConstReads
 pub mod FileReads
 pub mod Turns
@@ -24,6 +26,7 @@ pub mod FieldAgain
 pub mod ParamAgain
 pub mod ElemAgain
 pub mod TypeAgain
+pub mod FuncAgain
 pub mod ConstAgain
 pub mod FileAgain
 pub mod Laws
@@ -32,3 +35,5 @@ pub mod Answered
 pub mod SpecTurns
 pub mod ParamTurns
 pub mod SmallFits
+pub mod SkipTurns
+pub mod FuncTurns

@@ -2,7 +2,7 @@
 use Rattle.std.proofs.Common.{◌≡◌, ℕ, true, refl}
 use Rattle.go_syntax.specs.declared.symbols.Symbol.{Symbol}
 use Rattle.go_syntax.specs.declared.symbols.Symbol.TheVariants as t
-use Rattle.go_syntax.specs.Reading.{is_semicolon, is_comma, is_arrow, is_dot, is_close_paren, is_open_bracket, is_close_bracket, is_open_brace, is_close_brace, is_chan, is_package, is_open_paren, is_assign, is_import, is_var, is_type, is_const, is_ellipsis, is_tilde, is_bar}
+use Rattle.go_syntax.specs.Reading.{is_semicolon, is_comma, is_arrow, is_dot, is_close_paren, is_open_bracket, is_close_bracket, is_open_brace, is_close_brace, is_chan, is_package, is_open_paren, is_assign, is_import, is_var, is_type, is_const, is_star, is_func, is_ellipsis, is_tilde, is_bar}
 use Rattle.go_syntax.proofs.Viable.{Kind}
 
 pub only_semicolon : (k : Symbol) → is_semicolon k ≡ true → (at : ℕ) × (k ≡ t.Semicolon at)
@@ -144,3 +144,17 @@ only_bar _ h = absurd cc
 
 abbrev pub bar : Kind is_bar
 bar = record { make = t.Bar; holds = λ at. refl; only = only_bar }
+
+pub only_star : (k : Symbol) → is_star k ≡ true → (at : ℕ) × (k ≡ t.Star at)
+only_star (t.Star at) h = (at, refl)
+only_star _ h = absurd cc
+
+abbrev pub star : Kind is_star
+star = record { make = t.Star; holds = λ at. refl; only = only_star }
+
+pub only_func_word : (k : Symbol) → is_func k ≡ true → (at : ℕ) × (k ≡ t.Func at)
+only_func_word (t.Func at) h = (at, refl)
+only_func_word _ h = absurd cc
+
+abbrev pub func_word : Kind is_func
+func_word = record { make = t.Func; holds = λ at. refl; only = only_func_word }

@@ -295,7 +295,7 @@ sig_reads_by n inner h at ts =
     (λ ps us o. results_reads n inner h at ps us)
     (params_from true n inner [] ts) (list_reads true n inner h ts)
 
-some_sig : Sample SigAt
+pub some_sig : Sample SigAt
 some_sig = record { tokens = t.OpenParen 0 ∷ t.CloseParen 0 ∷ []; made = (signature [] [] 0, 0); stands = λ tail. (0, g.no_result true 0 0 (t.CloseParen 0 ∷ tail) [] tail (g.no_param true true 0 tail)) }
 
 pub sig_reads : (n : ℕ) (inner : List Symbol → Reply (Fit TypeExpr)) → ReadsTypes inner → (ts : List Symbol) → ReadsAt SigAt (sig_at n inner) ts (sig_at n inner ts)

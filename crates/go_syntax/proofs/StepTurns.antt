@@ -7,14 +7,14 @@ use Rattle.go_syntax.specs.declared.tree.Import.{Import}
 use Rattle.go_syntax.specs.declared.tree.Top.{Top}
 use Rattle.go_syntax.specs.declared.faults.Stop.{Stop}
 use Rattle.go_syntax.specs.declared.faults.Stop.TheVariants as stop
-use Rattle.go_syntax.specs.Reading.{Fails, Reply, ◌>>=◌, past, choose, steps, is_semicolon, is_import, is_var, is_type, is_const}
+use Rattle.go_syntax.specs.Reading.{Fails, Reply, ◌>>=◌, past, choose, steps, is_semicolon, is_import, is_var, is_type, is_const, is_func}
 use Rattle.go_syntax.specs.Decls.{IsImport, IsVarSpec, IsTypeSpec, IsGroup}
-use Rattle.go_syntax.specs.Files.{import_at, var_spec_at, type_spec_at, group_at, const_group_at, decl_more, decl_end, decl_at, import_step, top_step, some_semicolon, some_decl, no_decl, import_decl, top_decl, step_end}
+use Rattle.go_syntax.specs.Files.{import_at, var_spec_at, type_spec_at, group_at, const_group_at, func_group_at, decl_more, decl_end, decl_at, import_step, top_step, some_semicolon, some_decl, no_decl, import_decl, top_decl, step_end}
 use Rattle.go_syntax.proofs.Viable.{ReadsAt}
 use Rattle.go_syntax.proofs.Rows.{past_shorter}
 use Rattle.go_syntax.proofs.Steps.{Local, steps_is}
 use Rattle.go_syntax.proofs.Groups.{Any, decl_local_at}
-use Rattle.go_syntax.proofs.FileReads.{import_groups, var_groups, type_groups, ConstsAt, const_groups, import_local, top_local}
+use Rattle.go_syntax.proofs.FileReads.{import_groups, var_groups, type_groups, ConstsAt, const_groups, FuncsAt, func_groups, import_local, top_local}
 use Rattle.go_syntax.proofs.Turns.{with_front}
 
 -- a declaration, and then more of them
@@ -44,7 +44,8 @@ top_is : (n : ℕ) (more : List Symbol → Reply (List Top)) (ts : List Symbol) 
 top_is n more ts =
     choose_is more (past is_var ts) (some_decl (group_at (var_spec_at n))) (decl_at (group_at (var_spec_at n)) more) _ _ (λ us. decl_is more (group_at (var_spec_at n) us))
     (choose_is more (past is_type ts) (some_decl (group_at (type_spec_at n))) (decl_at (group_at (type_spec_at n)) more) _ _ (λ us. decl_is more (group_at (type_spec_at n) us))
-    (choose_is more (past is_const ts) (some_decl (const_group_at n)) (decl_at (const_group_at n) more) (no_decl ts) (Ok ([], ts)) (λ us. decl_is more (const_group_at n us)) refl))
+    (choose_is more (past is_const ts) (some_decl (const_group_at n)) (decl_at (const_group_at n) more) _ _ (λ us. decl_is more (const_group_at n us))
+    (choose_is more (past is_func ts) (some_decl (func_group_at n)) (decl_at (func_group_at n) more) (no_decl ts) (Ok ([], ts)) (λ us. decl_is more (func_group_at n us)) refl)))
 
 -- what reads one declaration is a step's first part
 pub record Steps {X : Type 0} (one : List Symbol → Reply (Option (List X))) (step : (List Symbol → Reply (List X)) → List Symbol → Reply (List X)) : Type 0 where
@@ -139,8 +140,10 @@ top_steps n = record {
       (λ vs h. some_smaller (Any (IsGroup IsVarSpec)) (group_at (var_spec_at n)) (var_groups n) vs xs us (group_at (var_spec_at n) vs) refl h)
       (λ o. choose_smaller is_type ts (some_decl (group_at (type_spec_at n))) _ xs us (past is_type ts) refl
       (λ vs h. some_smaller (Any (IsGroup IsTypeSpec)) (group_at (type_spec_at n)) (type_groups n) vs xs us (group_at (type_spec_at n) vs) refl h)
-      (λ p. choose_smaller is_const ts (some_decl (const_group_at n)) (no_decl ts) xs us (past is_const ts) refl
-      (λ vs h. some_smaller ConstsAt (const_group_at n) (const_groups n) vs xs us (const_group_at n vs) refl h) (λ h. absurd (none_is_none ts xs us h)) p) o) e;
+      (λ p. choose_smaller is_const ts (some_decl (const_group_at n)) _ xs us (past is_const ts) refl
+      (λ vs h. some_smaller ConstsAt (const_group_at n) (const_groups n) vs xs us (const_group_at n vs) refl h)
+      (λ q. choose_smaller is_func ts (some_decl (func_group_at n)) (no_decl ts) xs us (past is_func ts) refl
+      (λ vs h. some_smaller FuncsAt (func_group_at n) (func_groups n) vs xs us (func_group_at n vs) refl h) (λ h. absurd (none_is_none ts xs us h)) q) p) o) e;
 }
 
 -- ---- the same of what a call answered

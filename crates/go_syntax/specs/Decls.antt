@@ -1,5 +1,5 @@
 -- The grammar of declarations and files, a production a case. The number is that of the nodes on a longest path of a tree.
-use Rattle.std.specs.Prelude.{ℕ, max, List, [], ◌∷◌, ◌++◌, Option, Some, None}
+use Rattle.std.specs.Prelude.{ℕ, max, true, List, [], ◌∷◌, ◌++◌, Option, Some, None}
 use Rattle.go_syntax.specs.declared.symbols.Symbol.{Symbol}
 use Rattle.go_syntax.specs.declared.symbols.Symbol.TheVariants as t
 use Rattle.go_syntax.specs.declared.symbols.Ident.{Ident}
@@ -9,15 +9,18 @@ use Rattle.go_syntax.specs.declared.tree.Import.{Import}
 use Rattle.go_syntax.specs.declared.tree.Top.{Top}
 use Rattle.go_syntax.specs.declared.tree.Top.TheVariants as top
 use Rattle.go_syntax.specs.declared.tree.TypeExpr.{TypeExpr}
+use Rattle.go_syntax.specs.declared.tree.FuncDecl.{FuncDecl}
 use Rattle.go_syntax.specs.declared.tree.SourceFile.{SourceFile}
 use Rattle.go_syntax.specs.Names.{IsNames}
 use Rattle.go_syntax.specs.Grammar.{IsType}
+use Rattle.go_syntax.specs.Skipped.{IsSkipped}
+use Rattle.go_syntax.specs.Functions.{IsFunc}
 use Rattle.go_syntax.specs.Constants.{IsConstSpec, counted}
 
 abbrev pub import : Option Ident → Span → Import
 import name path = record { name = name; path = path; at = path.start }
 
-abbrev pub vars : List Ident → TypeExpr → Top
+abbrev pub vars : List Ident → Option TypeExpr → Top
 vars names ty = top.Var (record { names = names; ty = ty })
 
 abbrev pub defined : Ident → TypeExpr → Top
@@ -34,10 +37,17 @@ pub data IsImport : ℕ → List Symbol → Import → List Symbol → Type 0 wh
   plainly : (s : Span) (rest : List Symbol) → IsImport 0 (t.Text s ∷ rest) (import None s) rest
   named_so : (i : Ident) (s : Span) (rest : List Symbol) → IsImport 0 (t.Ident i ∷ t.Text s ∷ rest) (import (Some i) s) rest
 
--- VarSpec = IdentifierList Type
+-- [ "=" skipped ], in one line of code
+pub data IsValue : List Symbol → List Symbol → Type 0 where
+  no_value : (rest : List Symbol) → IsValue rest rest
+  value : (a : ℕ) (ts rest : List Symbol) → IsSkipped true ts rest → IsValue (t.Assign a ∷ ts) rest
+
+-- VarSpec = IdentifierList ( Type [ "=" skipped ] | "=" skipped )
 pub data IsVarSpec : ℕ → List Symbol → Top → List Symbol → Type 0 where
-  of_type : (n : ℕ) (ts : List Symbol) (i : Ident) (names : List Ident) (us : List Symbol) (ty : TypeExpr) (rest : List Symbol) → IsNames ts (i ∷ names) us → IsType n us ty rest
-      → IsVarSpec n ts (vars (i ∷ names) ty) rest
+  of_type : (n : ℕ) (ts : List Symbol) (i : Ident) (names : List Ident) (us : List Symbol) (ty : TypeExpr) (vs rest : List Symbol) → IsNames ts (i ∷ names) us → IsType n us ty vs → IsValue vs rest
+      → IsVarSpec n ts (vars (i ∷ names) (Some ty)) rest
+  of_value : (a : ℕ) (ts : List Symbol) (i : Ident) (names : List Ident) (us rest : List Symbol) → IsNames ts (i ∷ names) (t.Assign a ∷ us) → IsSkipped true us rest
+      → IsVarSpec 0 ts (vars (i ∷ names) None) rest
 
 -- TypeSpec = identifier [ "=" ] Type
 pub data IsTypeSpec : ℕ → List Symbol → Top → List Symbol → Type 0 where
@@ -67,6 +77,8 @@ pub data IsTops : ℕ → List Symbol → List Top → List Symbol → Type 0 wh
   types_too : (m n at s : ℕ) (ts us : List Symbol) (xs ys : List Top) (rest : List Symbol) → IsGroup IsTypeSpec m ts xs (t.Semicolon s ∷ us) → IsTops n us ys rest → IsTops (max m n) (t.Type at ∷ ts) (xs ++ ys) rest
   consts_too : (m n at s : ℕ) (ts us : List Symbol) (ws : List Written) (ys : List Top) (rest : List Symbol) → IsGroup IsConstSpec m ts ws (t.Semicolon s ∷ us) → IsTops n us ys rest
       → IsTops (max m n) (t.Const at ∷ ts) (counted 0 0 ws ++ ys) rest
+  func_too : (m n at s : ℕ) (ts us : List Symbol) (f : FuncDecl) (ys : List Top) (rest : List Symbol) → IsFunc m ts f (t.Semicolon s ∷ us) → IsTops n us ys rest
+      → IsTops (max m n) (t.Func at ∷ ts) (top.Func f ∷ ys) rest
 
 -- SourceFile = PackageClause ";" { ImportDecl ";" } { TopLevelDecl ";" }
 pub data IsFileOf : ℕ → List Symbol → SourceFile → List Symbol → Type 0 where

@@ -1,5 +1,5 @@
 -- Declarations and files, as they are read.
-use Rattle.std.specs.Prelude.{ℕ, List, [], ◌∷◌, ◌++◌, length, Option, Some, None, Result, Ok, Err}
+use Rattle.std.specs.Prelude.{ℕ, true, List, [], ◌∷◌, ◌++◌, length, Option, Some, None, Result, Ok, Err}
 use Rattle.go_syntax.specs.declared.symbols.Symbol.{Symbol}
 use Rattle.go_syntax.specs.declared.symbols.Symbol.TheVariants as t
 use Rattle.go_syntax.specs.declared.symbols.Ident.{Ident}
@@ -9,10 +9,13 @@ use Rattle.go_syntax.specs.declared.faults.Fault.TheVariants.{DotImport}
 use Rattle.go_syntax.specs.declared.constants.Written.{Written}
 use Rattle.go_syntax.specs.declared.tree.Import.{Import}
 use Rattle.go_syntax.specs.declared.tree.Top.{Top}
+use Rattle.go_syntax.specs.declared.tree.Top.TheVariants as top
 use Rattle.go_syntax.specs.declared.tree.SourceFile.{SourceFile}
-use Rattle.go_syntax.specs.Reading.{Reply, ◌>>=◌, unexpected, past, choose, is_package, is_semicolon, is_comma, is_assign, is_open_paren, is_close_paren, is_import, is_var, is_type, is_const, row, steps}
+use Rattle.go_syntax.specs.Reading.{Reply, ◌>>=◌, unexpected, past, choose, is_package, is_semicolon, is_comma, is_assign, is_open_paren, is_close_paren, is_import, is_var, is_type, is_const, is_func, row, steps}
 use Rattle.go_syntax.specs.Names.{ident_at, names_at, names_more}
 use Rattle.go_syntax.specs.Types.{type_at}
+use Rattle.go_syntax.specs.Skipped.{skip}
+use Rattle.go_syntax.specs.Functions.{func_at}
 use Rattle.go_syntax.specs.Constants.{counted, const_spec_at}
 use Rattle.go_syntax.specs.Decls.{import, vars, defined, alias, source_file}
 
@@ -32,14 +35,25 @@ import_at (t.Ident i ∷ ts) = named_import i ts
 import_at (t.Dot at ∷ ts) = dot_import (t.Dot at ∷ ts)
 import_at ts = unexpected ts
 
+-- after the sign
+abbrev pub value_by : Top → List Symbol → Reply Top
+value_by x ts = skip true [] ts >>= λ z. Ok (x, z.1)
+
+abbrev pub value_at : Top → List Symbol → Reply Top
+value_at x ts = choose (past is_assign ts) (value_by x) (Ok (x, ts))
+
 abbrev pub vars_typed : ℕ → List Ident → List Symbol → Reply Top
-vars_typed n names ts = type_at n ts >>= λ ty. Ok (vars names ty.0.0, ty.1)
+vars_typed n names ts = type_at n ts >>= λ ty. value_at (vars names (Some ty.0.0)) ty.1
+
+-- after the names
+abbrev pub vars_rest : ℕ → List Ident → List Symbol → Reply Top
+vars_rest n names ts = choose (past is_assign ts) (value_by (vars names None)) (vars_typed n names ts)
 
 abbrev pub vars_more : ℕ → Ident → List Symbol → Reply Top
-vars_more n i ts = names_more names_at i ts >>= λ names. vars_typed n names.0 names.1
+vars_more n i ts = names_more names_at i ts >>= λ names. vars_rest n names.0 names.1
 
 abbrev pub vars_first : ℕ → Ident → List Symbol → Reply Top
-vars_first n i ts = choose (past is_comma ts) (vars_more n i) (vars_typed n (i ∷ []) ts)
+vars_first n i ts = choose (past is_comma ts) (vars_more n i) (vars_rest n (i ∷ []) ts)
 
 abbrev pub var_spec_at : ℕ → List Symbol → Reply Top
 var_spec_at n ts = ident_at ts >>= λ i. vars_first n i.0 i.1
@@ -71,6 +85,10 @@ counting iota last read = read >>= λ ws. Ok (counted iota last ws.0, ws.1)
 abbrev pub const_group_at : ℕ → List Symbol → Reply (List Top)
 const_group_at n ts = counting 0 0 (group_at (const_spec_at n) ts)
 
+-- a function alone
+abbrev pub func_group_at : ℕ → List Symbol → Reply (List Top)
+func_group_at n ts = func_at n ts >>= λ f. Ok (top.Func f.0 ∷ [], f.1)
+
 -- ---- declarations, as long as there are more
 
 abbrev pub decl_more : {X : Type 0} → (List Symbol → Reply (List X)) → List X → List Symbol → Reply (List X)
@@ -88,7 +106,10 @@ import_step more ts = choose (past is_import ts) (decl_at (group_at import_at) m
 
 abbrev pub top_step : ℕ → (List Symbol → Reply (List Top)) → List Symbol → Reply (List Top)
 top_step n more ts =
-    choose (past is_var ts) (decl_at (group_at (var_spec_at n)) more) (choose (past is_type ts) (decl_at (group_at (type_spec_at n)) more) (choose (past is_const ts) (decl_at (const_group_at n) more) (Ok ([], ts))))
+    choose (past is_var ts) (decl_at (group_at (var_spec_at n)) more)
+    (choose (past is_type ts) (decl_at (group_at (type_spec_at n)) more)
+    (choose (past is_const ts) (decl_at (const_group_at n) more)
+    (choose (past is_func ts) (decl_at (func_group_at n) more) (Ok ([], ts)))))
 
 abbrev pub imports_at : List Symbol → Reply (List Import)
 imports_at ts = steps import_step ts
@@ -111,7 +132,10 @@ import_decl ts = choose (past is_import ts) (some_decl (group_at import_at)) (no
 
 abbrev pub top_decl : ℕ → List Symbol → Reply (Option (List Top))
 top_decl n ts =
-    choose (past is_var ts) (some_decl (group_at (var_spec_at n))) (choose (past is_type ts) (some_decl (group_at (type_spec_at n))) (choose (past is_const ts) (some_decl (const_group_at n)) (no_decl ts)))
+    choose (past is_var ts) (some_decl (group_at (var_spec_at n)))
+    (choose (past is_type ts) (some_decl (group_at (type_spec_at n)))
+    (choose (past is_const ts) (some_decl (const_group_at n))
+    (choose (past is_func ts) (some_decl (func_group_at n)) (no_decl ts))))
 
 abbrev pub step_end : {X : Type 0} → (List Symbol → Reply (List X)) → Option (List X) → List Symbol → Reply (List X)
 step_end more None ts = Ok ([], ts)

@@ -8,6 +8,8 @@ pub mod Elements
 pub mod Types
 pub mod Constants
 pub mod Kinds
+pub mod Skipped
+pub mod Functions
 pub mod Decls
 pub mod Files
 pub mod Outcomes

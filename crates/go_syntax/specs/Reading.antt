@@ -96,6 +96,10 @@ abbrev pub is_func : Symbol → Bool
 is_func (t.Func at) = true
 is_func _ = false
 
+abbrev pub is_star : Symbol → Bool
+is_star (t.Star at) = true
+is_star _ = false
+
 abbrev pub is_ellipsis : Symbol → Bool
 is_ellipsis (t.Ellipsis at) = true
 is_ellipsis _ = false

@@ -1,11 +1,13 @@
 ghost use Rattle.go_syntax.specs.Reading.{Exactly, Gives, row, is_close_paren};
-ghost use Rattle.go_syntax.specs.Files.{text_at, named_import, import_at, vars_typed, vars_first, type_first, group_at, const_group_at, some_decl, import_decl, top_decl};
+ghost use Rattle.go_syntax.specs.Files.{text_at, named_import, import_at, value_at, vars_typed, vars_rest, vars_first, type_first, group_at, const_group_at, func_group_at, some_decl, import_decl, top_decl};
 ghost use Rattle.go_syntax.specs.Specs.{spec_of};
 
 use crate::constants::const_group;
 use crate::faults::{Fault, Stop};
+use crate::functions::func_decl;
 use crate::names::more_names;
 use crate::reading::{Kind, ident, past, single};
+use crate::skipped::skipped;
 use crate::symbols::{Ident, Span, Symbol};
 use crate::tree::{Import, Top, TypeSpec, VarSpec};
 use crate::types::type_expr;
@@ -67,6 +69,17 @@ fn import_spec(tokens: &[Symbol]) -> Result<(Import, &[Symbol]), Fault>
     }
 }
 
+/// Variables with their value, if one comes next.
+fn with_value(alloc: Global, vars: Top, tokens: &[Symbol]) -> Result<(Top, &[Symbol]), Stop>
+    ensures { Gives (λ x. (x.0, x.1.now)) result (value_at vars tokens.now) }
+{
+    if let Ok(rest) = past(Kind::Assign, tokens) {
+        let rest = skipped(alloc, true, rest)?;
+        return Ok((vars, rest));
+    }
+    Ok((vars, tokens))
+}
+
 /// The type of variables, after their names.
 fn typed_vars(
     alloc: Global,
@@ -77,7 +90,24 @@ fn typed_vars(
     ensures { Gives (λ x. (x.0, x.1.now)) result (vars_typed left names tokens.now) }
 {
     let ((ty, _), rest) = type_expr(alloc, tokens, left)?;
-    Ok((Top::Var(VarSpec { names, ty }), rest))
+    let ty = Some(ty);
+    with_value(alloc, Top::Var(VarSpec { names, ty }), rest)
+}
+
+/// What follows the names of variables.
+fn after_var_names(
+    alloc: Global,
+    names: Items<Ident>,
+    tokens: &[Symbol],
+    left: usize,
+) -> Result<(Top, &[Symbol]), Stop>
+    ensures { Gives (λ x. (x.0, x.1.now)) result (vars_rest left names tokens.now) }
+{
+    if let Ok(rest) = past(Kind::Assign, tokens) {
+        let rest = skipped(alloc, true, rest)?;
+        return Ok((Top::Var(VarSpec { names, ty: None }), rest));
+    }
+    typed_vars(alloc, names, tokens, left)
 }
 
 /// Variables, after their first name.
@@ -91,10 +121,10 @@ fn first_var(
 {
     if let Ok(rest) = past(Kind::Comma, tokens) {
         let (names, rest) = more_names(alloc, first, rest)?;
-        return typed_vars(alloc, names, rest, left);
+        return after_var_names(alloc, names, rest, left);
     }
     let names = single(alloc, first)?;
-    typed_vars(alloc, names, tokens, left)
+    after_var_names(alloc, names, tokens, left)
 }
 
 /// A declared type, after its name.
@@ -246,6 +276,19 @@ fn const_decl(
     Ok((Some(constants), rest))
 }
 
+/// The function or method after its keyword, with the semicolon.
+fn func_top(
+    alloc: Global,
+    tokens: &[Symbol],
+    left: usize,
+) -> Result<(Option<Items<Top>>, &[Symbol]), Stop>
+    ensures { Gives (λ x. (x.0, x.1.now)) result (some_decl (func_group_at left) tokens.now) }
+{
+    let (func, rest) = func_decl(alloc, tokens, left)?;
+    let rest = past(Kind::Semicolon, rest)?;
+    Ok((Some(single(alloc, Top::Func(func))?), rest))
+}
+
 /// A declaration with its semicolon, if one comes next.
 pub(crate) fn top_decl(
     alloc: Global,
@@ -262,6 +305,9 @@ pub(crate) fn top_decl(
     }
     if let Ok(rest) = past(Kind::Const, tokens) {
         return const_decl(alloc, rest, left);
+    }
+    if let Ok(rest) = past(Kind::Func, tokens) {
+        return func_top(alloc, rest, left);
     }
     Ok((None, tokens))
 }

@@ -7,10 +7,12 @@ mod elements;
 mod expressions;
 mod faults;
 mod files;
+mod functions;
 mod names;
 mod params;
 mod parsing;
 mod reading;
+mod skipped;
 mod source;
 mod symbols;
 mod tree;
@@ -19,13 +21,15 @@ mod types;
 pub use parsing::{SyntaxFault, What, parse};
 pub use symbols::{Ident, Operator, Span};
 pub use tree::{
-    ConstSpec, ElemExpr, Expr, FieldExpr, Import, NameExpr, ParamExpr, SigExpr, SourceFile,
-    TermExpr, Top, TypeExpr, TypeSpec, VarSpec,
+    ConstSpec, ElemExpr, Expr, FieldExpr, FuncDecl, Import, NameExpr, ParamExpr, Receiver, SigExpr,
+    SourceFile, TermExpr, Top, TypeExpr, TypeSpec, VarSpec,
 };
 
 #[cfg(test)]
 mod constant_tests;
 #[cfg(test)]
 mod expression_tests;
+#[cfg(test)]
+mod function_tests;
 #[cfg(test)]
 mod tests;

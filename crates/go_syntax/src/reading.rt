@@ -72,6 +72,8 @@ pub(crate) enum Kind {
     Ellipsis,
     Bar,
     Tilde,
+    Star,
+    Func,
     /// What shows that the identifiers before it are types of parameters, where none may be variadic.
     ListEnd,
     /// The same where the last may be.
@@ -172,6 +174,8 @@ fn is_of(kind: Kind, symbol: Symbol) -> bool
         Kind::GoesOn => matches!(symbol, Symbol::Comma(_) | Symbol::Ellipsis(_)),
         Kind::Ellipsis => matches!(symbol, Symbol::Ellipsis(_)),
         Kind::Bar => matches!(symbol, Symbol::Bar(_)),
+        Kind::Star => matches!(symbol, Symbol::Star(_)),
+        Kind::Func => matches!(symbol, Symbol::Func(_)),
         Kind::Tilde => matches!(symbol, Symbol::Tilde(_)),
         Kind::ListEnd => shows_types(false, symbol),
         Kind::ListEndOrDots => shows_types(true, symbol),

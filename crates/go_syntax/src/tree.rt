@@ -153,11 +153,11 @@ pub struct Import {
     pub at: u32,
 }
 
-/// Variables that share a type.
+/// Variables that share a type, as it is written. Their values are skipped.
 #[derive(Debug, Drop)]
 pub struct VarSpec {
     pub names: Items<Ident>,
-    pub ty: TypeExpr,
+    pub ty: Option<TypeExpr>,
 }
 
 /// Constants that share a type and a list of values, as they are written. With no values they have the type
@@ -181,6 +181,23 @@ pub struct TypeSpec {
     pub ty: TypeExpr,
 }
 
+/// The receiver of a method: its name, the base type and the names of that type's parameters.
+#[derive(Debug, Drop)]
+pub struct Receiver {
+    pub name: Option<Ident>,
+    pub pointer: bool,
+    pub base: Ident,
+    pub args: Items<Ident>,
+}
+
+/// A declared function or method, whose body is skipped.
+#[derive(Debug, Drop)]
+pub struct FuncDecl {
+    pub receiver: Option<Receiver>,
+    pub name: Ident,
+    pub sig: SigExpr,
+}
+
 /// A declaration at the top of a file.
 #[derive(Debug, Drop)]
 pub enum Top {
@@ -188,6 +205,7 @@ pub enum Top {
     Var(VarSpec),
     Defined(TypeSpec),
     Alias(TypeSpec),
+    Func(FuncDecl),
 }
 
 /// A file's package clause, imports and declarations, in the order of the source.

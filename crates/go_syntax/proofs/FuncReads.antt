@@ -1,0 +1,206 @@
+-- What the readers of declarations of functions do.
+use Rattle.std.proofs.Common.{◌≡◌, ℕ, Bool, true, false, List, [], ◌∷◌, ◌++◌, Option, Some, None, Ok, refl, sym, subst}
+use Rattle.go_syntax.specs.declared.symbols.Symbol.{Symbol}
+use Rattle.go_syntax.specs.declared.symbols.Symbol.TheVariants as t
+use Rattle.go_syntax.specs.declared.symbols.Ident.{Ident}
+use Rattle.go_syntax.specs.declared.tree.Receiver.{Receiver}
+use Rattle.go_syntax.specs.declared.tree.FuncDecl.{FuncDecl}
+use Rattle.go_syntax.specs.declared.tree.SigExpr.{SigExpr}
+use Rattle.go_syntax.specs.Reading.{◌>>=◌, starts, is_comma, is_close_paren, is_open_paren, is_open_bracket, is_close_bracket, is_open_brace, is_close_brace, is_star, series_end, series}
+use Rattle.go_syntax.specs.Names.{ident_at}
+use Rattle.go_syntax.specs.Grammar.{IsSig}
+use Rattle.go_syntax.specs.Params.{sig_at}
+use Rattle.go_syntax.specs.Types.{type_at}
+use Rattle.go_syntax.specs.Skipped.{skip}
+use Rattle.go_syntax.specs.Functions as f
+use Rattle.go_syntax.specs.Functions.{receiver, function, IsIdents, IsArgs, IsReceiverEnd, IsReceiver, IsBody, IsFunc, idents, idents_at, args_at, receiver_close, receiver_end, receiver_base, receiver_pointer, receiver_first, receiver_at, body_close, body_by, body_at, func_sig, func_name, method_by, func_at}
+use Rattle.go_syntax.proofs.Viable.{next_is, ends_so, ReadsAt, Sample, Behind, Past, After, done_reads, like_reads, as_reads, cons_reads, past_reads, choose_reads, bind_reads}
+use Rattle.go_syntax.proofs.Marks.{comma, close_paren, open_paren, open_bracket, close_bracket, open_brace, close_brace, star}
+use Rattle.go_syntax.proofs.NameReads.{IsIdent, any_ident, ident_reads}
+use Rattle.go_syntax.proofs.Standing.{SigAt}
+use Rattle.go_syntax.proofs.ParamReads.{some_sig, sig_reads}
+use Rattle.go_syntax.proofs.TypeReads.{type_reads}
+use Rattle.go_syntax.proofs.Rows.{IsSeries, series_reads, end_reads, Eats, eats_of}
+use Rattle.go_syntax.proofs.SkipReads.{SkippedAt, skip_reads}
+use Rattle.go_syntax.proofs.Groups.{Any}
+
+-- ---- the arguments of a receiver
+
+no_ident_here : (x : Ident) (us : List Symbol) → IsIdent [] x us → ⊥
+no_ident_here x us e = absurd cc
+
+idents_series : IsSeries idents IsIdent IsIdents
+idents_series = record {
+  between = comma;
+  ending = close_bracket;
+  none = λ c rest. f.no_ident c rest;
+  last = λ c ts x rest e. rw e (f.last_ident x c rest);
+  more = λ s ts us x xs rest l e q. rw e (f.more_idents x s us xs rest q);
+  final = λ s c ts x rest l e. absurd cc;
+}
+
+-- one at least
+abbrev SomeIdents : List Symbol → List Ident → List Symbol → Type 0
+SomeIdents ts names rest = IsIdents ts names rest × (starts is_close_bracket ts ≡ false)
+
+pub ident_eats : Eats ident_at
+ident_eats = eats_of IsIdent ident_at no_ident_here ident_reads
+
+idents_read : (ts : List Symbol) → ReadsAt SomeIdents idents_at ts (idents_at ts)
+idents_read ts =
+    bind_reads IsIdent SomeIdents ident_at (series_end idents (series idents ident_at)) ts
+    (λ i. record { tokens = t.CloseBracket 0 ∷ []; made = i ∷ []; stands = λ tail us e. rw e (f.last_ident i 0 tail, refl) })
+    (λ i us o. as_reads (After IsIdent IsIdents i) (After IsIdent SomeIdents i) (series_end idents (series idents ident_at) i) us (series_end idents (series idents ident_at) i us)
+    (λ vs xs rest q ws e. (q ws e, subst (λ (zs : List Symbol). starts is_close_bracket zs ≡ false) (sym e) refl))
+    (end_reads idents IsIdent IsIdents idents_series (series idents ident_at) i us (λ vs less. series_reads idents IsIdent IsIdents idents_series ident_at no_ident_here ident_reads vs)))
+    (ident_at ts) (ident_reads ts)
+
+args_read : (ts : List Symbol) → ReadsAt IsArgs args_at ts (args_at ts)
+args_read ts =
+    choose_reads is_open_bracket IsArgs open_bracket idents_at (λ us. Ok ([], us)) ts
+    (λ us. as_reads SomeIdents (Past open_bracket IsArgs) idents_at us (idents_at us) (λ vs names rest w o. f.some_args o vs names rest w.1 w.0) (idents_read us))
+    (λ e. done_reads IsArgs (λ us. Ok ([], us)) ts [] (λ tail. f.no_args tail) (λ r d. refl))
+
+-- ---- receivers
+
+-- the end of this receiver
+abbrev EndAt : Receiver → List Symbol → Receiver → List Symbol → Type 0
+EndAt r ts x rest = (x ≡ r) × IsReceiverEnd ts rest
+
+end_read : (r : Receiver) (ts : List Symbol) → ReadsAt (EndAt r) (receiver_end r) ts (receiver_end r ts)
+end_read r ts =
+    choose_reads is_comma (EndAt r) comma (receiver_close r) (receiver_close r) ts
+    (λ us. past_reads is_close_paren (Past comma (EndAt r)) close_paren (λ rest. Ok (r, rest)) us
+    (record { tokens = []; made = r; stands = λ tail c s. (refl, f.closes_late s c tail) })
+    (λ k vs e. done_reads (Past close_paren (Past comma (EndAt r))) (λ rest. Ok (r, rest)) vs r (λ tail c s. (refl, f.closes_late s c tail)) (λ r' d. refl)))
+    (λ e. past_reads is_close_paren (EndAt r) close_paren (λ rest. Ok (r, rest)) ts
+    (record { tokens = []; made = r; stands = λ tail c. (refl, f.closes c tail) })
+    (λ k vs e'. done_reads (Past close_paren (EndAt r)) (λ rest. Ok (r, rest)) vs r (λ tail c. (refl, f.closes c tail)) (λ r' d. refl)))
+
+-- what stands after a base
+abbrev BaseAt : Option Ident → Bool → Ident → List Symbol → Receiver → List Symbol → Type 0
+BaseAt name pointer base ts x rest = (args : List Ident) × (us : List Symbol) × (x ≡ receiver name pointer base args) × IsArgs ts args us × IsReceiverEnd us rest
+
+base_read : (name : Option Ident) (pointer : Bool) (base : Ident) (ts : List Symbol) → ReadsAt (BaseAt name pointer base) (receiver_base name pointer base) ts (receiver_base name pointer base ts)
+base_read name pointer base ts =
+    bind_reads IsArgs (BaseAt name pointer base) args_at (λ args us. receiver_end (receiver name pointer base args) us) ts
+    (λ args. record { tokens = t.CloseParen 0 ∷ []; made = receiver name pointer base args; stands = λ tail us w. (args, t.CloseParen 0 ∷ tail, refl, w, f.closes 0 tail) })
+    (λ args us o. as_reads (EndAt (receiver name pointer base args)) (After IsArgs (BaseAt name pointer base) args) (receiver_end (receiver name pointer base args)) us (receiver_end (receiver name pointer base args) us)
+    (λ vs x rest w ws q. (args, vs, w.0, q, w.1)) (end_read (receiver name pointer base args) us))
+    (args_at ts) (args_read ts)
+
+some_base : (name : Option Ident) (pointer : Bool) (base : Ident) → Sample (BaseAt name pointer base)
+some_base name pointer base = record { tokens = t.CloseParen 0 ∷ []; made = receiver name pointer base []; stands = λ tail. ([], t.CloseParen 0 ∷ tail, refl, f.no_args (t.CloseParen 0 ∷ tail), f.closes 0 tail) }
+
+-- a base, and what stands after it
+abbrev WholeAt : Option Ident → Bool → List Symbol → Receiver → List Symbol → Type 0
+WholeAt name pointer ts x rest = (base : Ident) × (us : List Symbol) × (ts ≡ t.Ident base ∷ us) × BaseAt name pointer base us x rest
+
+pointer_read : (name : Option Ident) (ts : List Symbol) → ReadsAt (WholeAt name true) (receiver_pointer name) ts (receiver_pointer name ts)
+pointer_read name ts =
+    bind_reads IsIdent (WholeAt name true) ident_at (receiver_base name true) ts
+    (λ base. let s = some_base name true base in record { tokens = s.tokens; made = s.made; stands = λ tail us e. (base, s.tokens ++ tail, e, s.stands tail) })
+    (λ base us o. as_reads (BaseAt name true base) (After IsIdent (WholeAt name true) base) (receiver_base name true base) us (receiver_base name true base us) (λ vs x rest w ws e. (base, vs, e, w)) (base_read name true base us))
+    (ident_at ts) (ident_reads ts)
+
+base_as : (i : Ident) (us : List Symbol) (x : Receiver) (rest : List Symbol) → BaseAt None false i us x rest → IsReceiver (t.Ident i ∷ us) x rest
+base_as i us x rest w = rw w.2 (f.by_value i us w.0 w.1 rest w.3 w.4)
+
+named_as : (i b : Ident) (us : List Symbol) (x : Receiver) (rest : List Symbol) → BaseAt (Some i) false b us x rest → IsReceiver (t.Ident i ∷ t.Ident b ∷ us) x rest
+named_as i b us x rest w = rw w.2 (f.named_value i b us w.0 w.1 rest w.3 w.4)
+
+pointer_as : (i : Ident) (p : ℕ) (us : List Symbol) (x : Receiver) (rest : List Symbol) → WholeAt (Some i) true us x rest → IsReceiver (t.Ident i ∷ t.Star p ∷ us) x rest
+pointer_as i p us x rest w = rw (w.2, w.3.2) (f.named_pointer i p w.0 w.1 w.3.0 w.3.1 rest w.3.3 w.3.4)
+
+star_as : (p : ℕ) (us : List Symbol) (x : Receiver) (rest : List Symbol) → WholeAt None true us x rest → IsReceiver (t.Star p ∷ us) x rest
+star_as p us x rest w = rw (w.2, w.3.2) (f.by_pointer p w.0 w.1 w.3.0 w.3.1 rest w.3.3 w.3.4)
+
+alone_read : (i : Ident) (ts : List Symbol) → ReadsAt (Behind (t.Ident i) IsReceiver) (receiver_base None false i) ts (receiver_base None false i ts)
+alone_read i ts = as_reads (BaseAt None false i) (Behind (t.Ident i) IsReceiver) (receiver_base None false i) ts (receiver_base None false i ts) (base_as i) (base_read None false i ts)
+
+first_read : (i : Ident) (ts : List Symbol) → ReadsAt (Behind (t.Ident i) IsReceiver) (receiver_first i) ts (receiver_first i ts)
+first_read i [] = like_reads (Behind (t.Ident i) IsReceiver) (receiver_first i) (receiver_base None false i) [] (receiver_base None false i []) (ends_so (λ r. receiver_first i r ≡ receiver_base None false i r) refl) (alone_read i [])
+first_read i (t.Ident b ∷ ts) =
+    cons_reads (Behind (t.Ident i) IsReceiver) (receiver_first i) (receiver_base (Some i) false b) (t.Ident b) ts (receiver_base (Some i) false b ts) (λ r. refl)
+    (as_reads (BaseAt (Some i) false b) (Behind (t.Ident b) (Behind (t.Ident i) IsReceiver)) (receiver_base (Some i) false b) ts (receiver_base (Some i) false b ts) (named_as i b) (base_read (Some i) false b ts))
+first_read i (t.Star p ∷ ts) =
+    cons_reads (Behind (t.Ident i) IsReceiver) (receiver_first i) (receiver_pointer (Some i)) (t.Star p) ts (receiver_pointer (Some i) ts) (λ r. refl)
+    (as_reads (WholeAt (Some i) true) (Behind (t.Star p) (Behind (t.Ident i) IsReceiver)) (receiver_pointer (Some i)) ts (receiver_pointer (Some i) ts) (pointer_as i p) (pointer_read (Some i) ts))
+first_read i (k ∷ ts) = like_reads (Behind (t.Ident i) IsReceiver) (receiver_first i) (receiver_base None false i) (k ∷ ts) (receiver_base None false i (k ∷ ts)) (next_is (λ r. receiver_first i r ≡ receiver_base None false i r) k (λ r. refl)) (alone_read i (k ∷ ts))
+
+receiver_read : (ts : List Symbol) → ReadsAt IsReceiver receiver_at ts (receiver_at ts)
+receiver_read ts =
+    choose_reads is_star IsReceiver star (receiver_pointer None) (λ us. ident_at us >>= λ i. receiver_first i.0 i.1) ts
+    (λ us. as_reads (WholeAt None true) (Past star IsReceiver) (receiver_pointer None) us (receiver_pointer None us) (λ vs x rest w p. star_as p vs x rest w) (pointer_read None us))
+    (λ e. bind_reads IsIdent IsReceiver ident_at receiver_first ts
+    (λ i. let s = some_base None false i in record { tokens = s.tokens; made = s.made; stands = λ tail us e. rw e (base_as i (s.tokens ++ tail) s.made tail (s.stands tail)) })
+    (λ i us o. as_reads (Behind (t.Ident i) IsReceiver) (After IsIdent IsReceiver i) (receiver_first i) us (receiver_first i us) (λ vs x rest w ws e. rw e w) (first_read i us))
+    (ident_at ts) (ident_reads ts))
+
+-- ---- bodies
+
+abbrev BodyAt : FuncDecl → List Symbol → FuncDecl → List Symbol → Type 0
+BodyAt d ts x rest = (x ≡ d) × IsBody ts rest
+
+body_read : (d : FuncDecl) (ts : List Symbol) → ReadsAt (BodyAt d) (body_at d) ts (body_at d ts)
+body_read d ts =
+    choose_reads is_open_brace (BodyAt d) open_brace (body_by d) (λ us. Ok (d, us)) ts
+    (λ us. bind_reads (SkippedAt false) (Past open_brace (BodyAt d)) (skip false []) (λ x vs. body_close d vs) us
+    (λ x. record { tokens = t.CloseBrace 0 ∷ []; made = d; stands = λ tail vs w o. (refl, f.body o 0 vs tail w) })
+    (λ x vs o. past_reads is_close_brace (After (SkippedAt false) (Past open_brace (BodyAt d)) x) close_brace (λ rest. Ok (d, rest)) vs
+    (record { tokens = []; made = d; stands = λ tail c ws w o'. (refl, f.body o' c ws tail w) })
+    (λ k ws e. done_reads (Past close_brace (After (SkippedAt false) (Past open_brace (BodyAt d)) x)) (λ rest. Ok (d, rest)) ws d (λ tail c ws' w o'. (refl, f.body o' c ws' tail w)) (λ r e'. refl)))
+    (skip false [] us) (skip_reads false us))
+    (λ e. done_reads (BodyAt d) (λ us. Ok (d, us)) ts d (λ tail. (refl, f.no_body tail)) (λ r e'. refl))
+
+-- ---- functions
+
+-- after the name
+abbrev SigBodyAt : Option Receiver → Ident → List Symbol → FuncDecl → List Symbol → Type 0
+SigBodyAt r i ts x rest = (m : ℕ) × (us : List Symbol) × (sig : SigExpr) × (x ≡ function r i sig) × IsSig m ts sig us × IsBody us rest
+
+sig_body_read : (n : ℕ) (r : Option Receiver) (i : Ident) (ts : List Symbol) → ReadsAt (SigBodyAt r i) (func_sig n r i) ts (func_sig n r i ts)
+sig_body_read n r i ts =
+    bind_reads SigAt (SigBodyAt r i) (sig_at n (type_at n)) (λ sig us. body_at (function r i sig.0) us) ts
+    (λ sig. record { tokens = []; made = function r i sig.0; stands = λ tail us w. (w.0, tail, sig.0, refl, w.1, f.no_body tail) })
+    (λ sig us o. as_reads (BodyAt (function r i sig.0)) (After SigAt (SigBodyAt r i) sig) (body_at (function r i sig.0)) us (body_at (function r i sig.0) us) (λ vs x rest w ws q. (q.0, vs, sig.0, w.0, q.1, w.1)) (body_read (function r i sig.0) us))
+    (sig_at n (type_at n) ts) (sig_reads n (type_at n) (type_reads n) ts)
+
+some_sig_body : (r : Option Receiver) (i : Ident) → Sample (SigBodyAt r i)
+some_sig_body r i = record { tokens = some_sig.tokens; made = function r i some_sig.made.0; stands = λ tail. let w = some_sig.stands tail in (w.0, tail, some_sig.made.0, refl, w.1, f.no_body tail) }
+
+abbrev NameAt : Option Receiver → List Symbol → FuncDecl → List Symbol → Type 0
+NameAt r ts x rest = (i : Ident) × (us : List Symbol) × (ts ≡ t.Ident i ∷ us) × SigBodyAt r i us x rest
+
+name_read : (n : ℕ) (r : Option Receiver) (ts : List Symbol) → ReadsAt (NameAt r) (func_name n r) ts (func_name n r ts)
+name_read n r ts =
+    bind_reads IsIdent (NameAt r) ident_at (func_sig n r) ts
+    (λ i. let s = some_sig_body r i in record { tokens = s.tokens; made = s.made; stands = λ tail us e. (i, s.tokens ++ tail, e, s.stands tail) })
+    (λ i us o. as_reads (SigBodyAt r i) (After IsIdent (NameAt r) i) (func_sig n r i) us (func_sig n r i us) (λ vs x rest w ws e. (i, vs, e, w)) (sig_body_read n r i us))
+    (ident_at ts) (ident_reads ts)
+
+abbrev pub FuncAt : List Symbol → FuncDecl → List Symbol → Type 0
+FuncAt = Any IsFunc
+
+method_as : (r : Receiver) (o : ℕ) (ts us : List Symbol) (x : FuncDecl) (rest : List Symbol) → IsReceiver ts r us → NameAt (Some r) us x rest → FuncAt (t.OpenParen o ∷ ts) x rest
+method_as r o ts us x rest q w = rw w.3.3 (w.3.0, f.method_func w.3.0 o ts r w.0 w.1 w.3.1 w.3.2 rest (subst (λ (vs : List Symbol). IsReceiver ts r vs) w.2 q) w.3.4 w.3.5)
+
+plain_as : (ts : List Symbol) (x : FuncDecl) (rest : List Symbol) → NameAt None ts x rest → FuncAt ts x rest
+plain_as ts x rest w = rw (w.2, w.3.3) (w.3.0, f.plain_func w.3.0 w.0 w.1 w.3.1 w.3.2 rest w.3.4 w.3.5)
+
+method_read : (n : ℕ) (ts : List Symbol) → ReadsAt (Past open_paren FuncAt) (method_by n) ts (method_by n ts)
+method_read n ts =
+    bind_reads IsReceiver (Past open_paren FuncAt) receiver_at (λ r us. func_name n (Some r) us) ts
+    (λ r. let s = some_sig_body (Some r) any_ident in record {
+      tokens = t.Ident any_ident ∷ s.tokens;
+      made = s.made;
+      stands = λ tail us q o. method_as r o us (t.Ident any_ident ∷ s.tokens ++ tail) s.made tail q (any_ident, s.tokens ++ tail, refl, s.stands tail);
+    })
+    (λ r us o. as_reads (NameAt (Some r)) (After IsReceiver (Past open_paren FuncAt) r) (func_name n (Some r)) us (func_name n (Some r) us) (λ vs x rest w ws q o'. method_as r o' ws vs x rest q w) (name_read n (Some r) us))
+    (receiver_at ts) (receiver_read ts)
+
+pub func_reads : (n : ℕ) (ts : List Symbol) → ReadsAt FuncAt (func_at n) ts (func_at n ts)
+func_reads n ts =
+    choose_reads is_open_paren FuncAt open_paren (method_by n) (func_name n None) ts
+    (λ us. method_read n us)
+    (λ e. as_reads (NameAt None) FuncAt (func_name n None) ts (func_name n None ts) plain_as (name_read n None ts))

@@ -1,0 +1,116 @@
+-- Declarations of functions and methods, as they are written and as they are read.
+use Rattle.std.specs.Prelude.{◌≡◌, ℕ, Bool, true, false, List, [], ◌∷◌, ◌++◌, Option, Some, None, Ok}
+use Rattle.go_syntax.specs.declared.symbols.Symbol.{Symbol}
+use Rattle.go_syntax.specs.declared.symbols.Symbol.TheVariants as t
+use Rattle.go_syntax.specs.declared.symbols.Ident.{Ident}
+use Rattle.go_syntax.specs.declared.tree.Receiver.{Receiver}
+use Rattle.go_syntax.specs.declared.tree.FuncDecl.{FuncDecl}
+use Rattle.go_syntax.specs.declared.tree.SigExpr.{SigExpr}
+use Rattle.go_syntax.specs.Reading.{Reply, ◌>>=◌, past, choose, starts, is_comma, is_close_paren, is_open_paren, is_open_bracket, is_close_bracket, is_open_brace, is_close_brace, is_star, Shape, series_item, series}
+use Rattle.go_syntax.specs.Names.{ident_at, ident_or}
+use Rattle.go_syntax.specs.Grammar.{IsSig}
+use Rattle.go_syntax.specs.Params.{sig_at}
+use Rattle.go_syntax.specs.Types.{type_at}
+use Rattle.go_syntax.specs.Skipped.{IsSkipped, skip}
+
+abbrev pub receiver : Option Ident → Bool → Ident → List Ident → Receiver
+receiver name pointer base args = record { name = name; pointer = pointer; base = base; args = args }
+
+abbrev pub function : Option Receiver → Ident → SigExpr → FuncDecl
+function r i sig = record { receiver = r; name = i; sig = sig }
+
+-- ---- the grammar
+
+-- identifiers up to the bracket that closes, with a comma between each two, and perhaps after the last
+pub data IsIdents : List Symbol → List Ident → List Symbol → Type 0 where
+  no_ident : (c : ℕ) (rest : List Symbol) → IsIdents (t.CloseBracket c ∷ rest) [] rest
+  last_ident : (i : Ident) (c : ℕ) (rest : List Symbol) → IsIdents (t.Ident i ∷ t.CloseBracket c ∷ rest) (i ∷ []) rest
+  more_idents : (i : Ident) (s : ℕ) (ts : List Symbol) (names : List Ident) (rest : List Symbol) → IsIdents ts names rest → IsIdents (t.Ident i ∷ t.Comma s ∷ ts) (i ∷ names) rest
+
+-- [ "[" IdentifierList [ "," ] "]" ]
+pub data IsArgs : List Symbol → List Ident → List Symbol → Type 0 where
+  no_args : (rest : List Symbol) → IsArgs rest [] rest
+  some_args : (o : ℕ) (ts : List Symbol) (names : List Ident) (rest : List Symbol) → starts is_close_bracket ts ≡ false → IsIdents ts names rest → IsArgs (t.OpenBracket o ∷ ts) names rest
+
+-- [ "," ] ")"
+pub data IsReceiverEnd : List Symbol → List Symbol → Type 0 where
+  closes : (c : ℕ) (rest : List Symbol) → IsReceiverEnd (t.CloseParen c ∷ rest) rest
+  closes_late : (s c : ℕ) (rest : List Symbol) → IsReceiverEnd (t.Comma s ∷ t.CloseParen c ∷ rest) rest
+
+-- after the parenthesis: [ identifier ] [ "*" ] identifier [ Args ] [ "," ] ")"
+pub data IsReceiver : List Symbol → Receiver → List Symbol → Type 0 where
+  by_value : (base : Ident) (ts : List Symbol) (args : List Ident) (us rest : List Symbol) → IsArgs ts args us → IsReceiverEnd us rest → IsReceiver (t.Ident base ∷ ts) (receiver None false base args) rest
+  by_pointer : (p : ℕ) (base : Ident) (ts : List Symbol) (args : List Ident) (us rest : List Symbol) → IsArgs ts args us → IsReceiverEnd us rest → IsReceiver (t.Star p ∷ t.Ident base ∷ ts) (receiver None true base args) rest
+  named_value : (i base : Ident) (ts : List Symbol) (args : List Ident) (us rest : List Symbol) → IsArgs ts args us → IsReceiverEnd us rest → IsReceiver (t.Ident i ∷ t.Ident base ∷ ts) (receiver (Some i) false base args) rest
+  named_pointer : (i : Ident) (p : ℕ) (base : Ident) (ts : List Symbol) (args : List Ident) (us rest : List Symbol) → IsArgs ts args us → IsReceiverEnd us rest
+      → IsReceiver (t.Ident i ∷ t.Star p ∷ t.Ident base ∷ ts) (receiver (Some i) true base args) rest
+
+-- [ "{" skipped "}" ]
+pub data IsBody : List Symbol → List Symbol → Type 0 where
+  no_body : (rest : List Symbol) → IsBody rest rest
+  body : (o c : ℕ) (ts rest : List Symbol) → IsSkipped false ts (t.CloseBrace c ∷ rest) → IsBody (t.OpenBrace o ∷ ts) rest
+
+-- FunctionDecl = "func" identifier Signature [ Body ], MethodDecl = "func" Receiver identifier Signature [ Body ], after the word
+pub data IsFunc : ℕ → List Symbol → FuncDecl → List Symbol → Type 0 where
+  plain_func : (n : ℕ) (i : Ident) (ts us : List Symbol) (sig : SigExpr) (rest : List Symbol) → IsSig n ts sig us → IsBody us rest → IsFunc n (t.Ident i ∷ ts) (function None i sig) rest
+  method_func : (n o : ℕ) (ts : List Symbol) (r : Receiver) (i : Ident) (us vs : List Symbol) (sig : SigExpr) (rest : List Symbol) → IsReceiver ts r (t.Ident i ∷ us) → IsSig n us sig vs → IsBody vs rest
+      → IsFunc n (t.OpenParen o ∷ ts) (function (Some r) i sig) rest
+
+-- ---- reading
+
+abbrev pub idents : Shape Ident (List Ident)
+idents = record { sep = is_comma; closes = is_close_bracket; final = λ x. false; nil = []; cons = λ x xs. x ∷ xs }
+
+-- such identifiers behind others
+abbrev pub idents_row : List Ident → List Symbol → Reply (List Ident)
+idents_row found ts = series idents ident_at ts >>= λ names. Ok (found ++ names.0, names.1)
+
+-- one identifier at least, up to the bracket
+abbrev pub idents_at : List Symbol → Reply (List Ident)
+idents_at ts = series_item idents ident_at (series idents ident_at) ts
+
+abbrev pub args_at : List Symbol → Reply (List Ident)
+args_at ts = choose (past is_open_bracket ts) idents_at (Ok ([], ts))
+
+abbrev pub receiver_close : Receiver → List Symbol → Reply Receiver
+receiver_close r ts = past is_close_paren ts >>= λ rest. Ok (r, rest)
+
+abbrev pub receiver_end : Receiver → List Symbol → Reply Receiver
+receiver_end r ts = choose (past is_comma ts) (receiver_close r) (receiver_close r ts)
+
+-- after the base
+abbrev pub receiver_base : Option Ident → Bool → Ident → List Symbol → Reply Receiver
+receiver_base name pointer base ts = args_at ts >>= λ args. receiver_end (receiver name pointer base args.0) args.1
+
+-- after the star
+abbrev pub receiver_pointer : Option Ident → List Symbol → Reply Receiver
+receiver_pointer name ts = ident_at ts >>= λ base. receiver_base name true base.0 base.1
+
+-- after the first identifier
+abbrev pub receiver_first : Ident → List Symbol → Reply Receiver
+receiver_first i ts = ident_or (ident_at ts) (receiver_base (Some i) false) (choose (past is_star ts) (receiver_pointer (Some i)) (receiver_base None false i ts))
+
+abbrev pub receiver_at : List Symbol → Reply Receiver
+receiver_at ts = choose (past is_star ts) (receiver_pointer None) (ident_at ts >>= λ i. receiver_first i.0 i.1)
+
+abbrev pub body_close : FuncDecl → List Symbol → Reply FuncDecl
+body_close f ts = past is_close_brace ts >>= λ rest. Ok (f, rest)
+
+abbrev pub body_by : FuncDecl → List Symbol → Reply FuncDecl
+body_by f ts = skip false [] ts >>= λ x. body_close f x.1
+
+abbrev pub body_at : FuncDecl → List Symbol → Reply FuncDecl
+body_at f ts = choose (past is_open_brace ts) (body_by f) (Ok (f, ts))
+
+-- after the name
+abbrev pub func_sig : ℕ → Option Receiver → Ident → List Symbol → Reply FuncDecl
+func_sig n r i ts = sig_at n (type_at n) ts >>= λ sig. body_at (function r i sig.0.0) sig.1
+
+abbrev pub func_name : ℕ → Option Receiver → List Symbol → Reply FuncDecl
+func_name n r ts = ident_at ts >>= λ i. func_sig n r i.0 i.1
+
+abbrev pub method_by : ℕ → List Symbol → Reply FuncDecl
+method_by n ts = receiver_at ts >>= λ r. func_name n (Some r.0) r.1
+
+abbrev pub func_at : ℕ → List Symbol → Reply FuncDecl
+func_at n ts = choose (past is_open_paren ts) (method_by n) (func_name n None ts)

@@ -1,0 +1,180 @@
+ghost use Rattle.std.specs.Prelude.{◌≡◌};
+ghost use Rattle.go_syntax.specs.Reading.{Exactly, Gives};
+ghost use Rattle.go_syntax.specs.Functions.{idents_row, idents_at, args_at, receiver_end, receiver_base, receiver_pointer, receiver_first, receiver_at, body_at, func_name, func_at};
+
+use crate::faults::{Fault, Stop};
+use crate::params::signature;
+use crate::reading::{Kind, ident, past, single};
+use crate::skipped::skipped;
+use crate::symbols::{Ident, Symbol};
+use crate::tree::{FuncDecl, Receiver};
+use sqlite_items::Items;
+use std::alloc::Global;
+
+/// Identifiers up to the bracket that closes, after those that were found.
+fn ident_row(
+    alloc: Global,
+    found: Items<Ident>,
+    tokens: &[Symbol],
+) -> Result<(Items<Ident>, &[Symbol]), Stop>
+    ensures { Gives (λ x. (x.0, x.1.now)) result (idents_row found tokens.now) }
+{
+    let mut found = found;
+    let mut rest = tokens;
+    loop {
+        if let Ok(after) = past(Kind::CloseBracket, rest) {
+            return Ok((found, after));
+        }
+        let (name, behind) = ident(rest)?;
+        found.push(name)?;
+        if let Ok(after) = past(Kind::CloseBracket, behind) {
+            return Ok((found, after));
+        }
+        rest = past(Kind::Comma, behind)?;
+    }
+}
+
+/// Identifiers up to the bracket that closes, one at least.
+fn idents(alloc: Global, tokens: &[Symbol]) -> Result<(Items<Ident>, &[Symbol]), Stop>
+    ensures { Gives (λ x. (x.0, x.1.now)) result (idents_at tokens.now) }
+{
+    let (first, rest) = ident(tokens)?;
+    let found = single(alloc, first)?;
+    if let Ok(after) = past(Kind::CloseBracket, rest) {
+        return Ok((found, after));
+    }
+    let rest = past(Kind::Comma, rest)?;
+    ident_row(alloc, found, rest)
+}
+
+/// The arguments of a receiver's base, if they come next.
+fn args(alloc: Global, tokens: &[Symbol]) -> Result<(Items<Ident>, &[Symbol]), Stop>
+    ensures { Gives (λ x. (x.0, x.1.now)) result (args_at tokens.now) }
+{
+    if let Ok(rest) = past(Kind::OpenBracket, tokens) {
+        return idents(alloc, rest);
+    }
+    Ok((Items::new(alloc), tokens))
+}
+
+/// The end of a receiver.
+fn receiver_end(receiver: Receiver, tokens: &[Symbol]) -> Result<(Receiver, &[Symbol]), Fault>
+    ensures { Exactly (λ x. (x.0, x.1.now)) result (receiver_end receiver tokens.now) }
+{
+    if let Ok(rest) = past(Kind::Comma, tokens) {
+        let rest = past(Kind::CloseParen, rest)?;
+        return Ok((receiver, rest));
+    }
+    let rest = past(Kind::CloseParen, tokens)?;
+    Ok((receiver, rest))
+}
+
+/// A receiver, after its base.
+fn receiver_base(
+    alloc: Global,
+    name: Option<Ident>,
+    pointer: bool,
+    base: Ident,
+    tokens: &[Symbol],
+) -> Result<(Receiver, &[Symbol]), Stop>
+    ensures { Gives (λ x. (x.0, x.1.now)) result (receiver_base name pointer base tokens.now) }
+{
+    let (args, rest) = args(alloc, tokens)?;
+    let receiver = Receiver {
+        name,
+        pointer,
+        base,
+        args,
+    };
+    Ok(receiver_end(receiver, rest)?)
+}
+
+/// A receiver that is a pointer, after the star.
+fn receiver_pointer(
+    alloc: Global,
+    name: Option<Ident>,
+    tokens: &[Symbol],
+) -> Result<(Receiver, &[Symbol]), Stop>
+    ensures { Gives (λ x. (x.0, x.1.now)) result (receiver_pointer name tokens.now) }
+{
+    let (base, rest) = ident(tokens)?;
+    receiver_base(alloc, name, true, base, rest)
+}
+
+/// A receiver, after its first token, which is an identifier.
+fn receiver_first(
+    alloc: Global,
+    name: Ident,
+    tokens: &[Symbol],
+) -> Result<(Receiver, &[Symbol]), Stop>
+    ensures { Gives (λ x. (x.0, x.1.now)) result (receiver_first name tokens.now) }
+{
+    if let Ok((base, rest)) = ident(tokens) {
+        return receiver_base(alloc, Some(name), false, base, rest);
+    }
+    if let Ok(rest) = past(Kind::Star, tokens) {
+        return receiver_pointer(alloc, Some(name), rest);
+    }
+    receiver_base(alloc, None, false, name, tokens)
+}
+
+/// A receiver, after its parenthesis.
+fn receiver(alloc: Global, tokens: &[Symbol]) -> Result<(Receiver, &[Symbol]), Stop>
+    ensures { Gives (λ x. (x.0, x.1.now)) result (receiver_at tokens.now) }
+{
+    if let Ok(rest) = past(Kind::Star, tokens) {
+        return receiver_pointer(alloc, None, rest);
+    }
+    let (name, rest) = ident(tokens)?;
+    receiver_first(alloc, name, rest)
+}
+
+/// A function with its body, if one comes next.
+fn with_body(
+    alloc: Global,
+    func: FuncDecl,
+    tokens: &[Symbol],
+) -> Result<(FuncDecl, &[Symbol]), Stop>
+    ensures { Gives (λ x. (x.0, x.1.now)) result (body_at func tokens.now) }
+{
+    if let Ok(rest) = past(Kind::OpenBrace, tokens) {
+        let rest = skipped(alloc, false, rest)?;
+        let rest = past(Kind::CloseBrace, rest)?;
+        return Ok((func, rest));
+    }
+    Ok((func, tokens))
+}
+
+/// A function, from its name on.
+fn named_func(
+    alloc: Global,
+    receiver: Option<Receiver>,
+    tokens: &[Symbol],
+    left: usize,
+) -> Result<(FuncDecl, &[Symbol]), Stop>
+    ensures { Gives (λ x. (x.0, x.1.now)) result (func_name left receiver tokens.now) }
+{
+    let (name, rest) = ident(tokens)?;
+    let ((sig, _), rest) = signature(alloc, rest, left)?;
+    let func = FuncDecl {
+        receiver,
+        name,
+        sig,
+    };
+    with_body(alloc, func, rest)
+}
+
+/// A function or a method, after its keyword.
+pub(crate) fn func_decl(
+    alloc: Global,
+    tokens: &[Symbol],
+    left: usize,
+) -> Result<(FuncDecl, &[Symbol]), Stop>
+    ensures { Gives (λ x. (x.0, x.1.now)) result (func_at left tokens.now) }
+{
+    if let Ok(rest) = past(Kind::OpenParen, tokens) {
+        let (receiver, rest) = receiver(alloc, rest)?;
+        return named_func(alloc, Some(receiver), rest, left);
+    }
+    named_func(alloc, None, tokens, left)
+}
