@@ -4,13 +4,13 @@ use Rattle.std.specs.Prelude.{IfNone}
 use Rattle.std.specs.List.{AllByRecursion}
 use Rattle.std.specs.List.Sorted.{IsNonDecreasingBy, IsPartitionPoint}
 use Rattle.std.proofs.lemmas.Bool.{cases_lt, leb-true, leb-false}
-use Rattle.std.proofs.lemmas.List.{length-map}
+use Rattle.std.proofs.lemmas.List.{length-map, length-append}
 use Rattle.std.proofs.lemmas.Option.{slice_get_within, get_or_from_slice_get}
 use Rattle.name_index.specs.declared.records.EntryRecord.{EntryRecord}
 use Rattle.name_index.specs.declared.records.PackageRecord.{PackageRecord}
-use Rattle.name_index.specs.FullFile.{Entry, Package, Listed, listed}
+use Rattle.name_index.specs.FullFile.{Entry, Package, Listed, listed_in, listed}
 use Rattle.position_codec.specs.Order.{Rise}
-use Rattle.name_index.specs.Lookup.{heading_at, names_at, name_at, IsListed}
+use Rattle.name_index.specs.Lookup.{heading_at, names_at, name_at, as_listed, IsListed}
 use Rattle.position_codec.specs.Paths.{text_of, IsInside}
 use Rattle.name_index.specs.Records.{entry_of, package_of, packages_of, paths_of, name_count, IsNumbered, IsHolder, IsPackageInside, IsSearchable}
 use Rattle.std.specs.Cmp.Lexicographic.{pointwise}
@@ -293,3 +293,34 @@ counts_are own strings (r ∷ rs) (suc k) = other strings rs k
     other strings [] k = refl
     other strings (r ∷ rs) zero = sym (length-map r.entries.items (entry_of strings))
     other strings (r ∷ rs) (suc k) = other strings rs k
+
+-- ---- how many names there are
+
+no_names : (rs : List PackageRecord) → length rs ≡ 0 → name_count rs ≡ 0
+no_names [] none = refl
+no_names (q ∷ rs) none = absurd (omega (arith, none))
+
+total_from : (rs : List PackageRecord) (n k : ℕ) (r : PackageRecord) → IsNumbered n rs → slice_get rs k ≡ Some r → length rs ≡ k + 1 → r.first + length r.entries.items ≡ n + name_count rs
+total_from [] n k r numbered at last = absurd cc
+total_from (q ∷ rs) n zero r numbered at last =
+    let same : q ≡ r = cc in
+    omega (arith, numbered.0, ap (λ (x : PackageRecord). x.first) same, ap (λ (x : PackageRecord). length x.entries.items) same, no_names rs (omega (arith, last)))
+total_from (q ∷ rs) n (suc k) r numbered at last = omega (arith, total_from rs (n + length q.entries.items) k r numbered.1 at (omega (arith, last)))
+
+-- the last record knows how many names it and those before it list
+pub total : (rs : List PackageRecord) (r : PackageRecord) → IsNumbered 0 rs → slice_get rs (length rs - 1) ≡ Some r → r.first + length r.entries.items ≡ name_count rs
+total [] r numbered at = absurd cc
+total (q ∷ rs) r numbered at = omega (arith, total_from (q ∷ rs) 0 (length (q ∷ rs) - 1) r numbered at (omega arith))
+
+listed_of : (strings : List ℕ) (rs : List PackageRecord) → length (listed (map (package_of strings) rs)) ≡ name_count rs
+listed_of strings [] = refl
+listed_of strings (r ∷ rs) =
+    omega (arith, length-append (listed_in (package_of strings r)) (listed (map (package_of strings) rs)), listed_of strings rs,
+    length-map r.entries.items (entry_of strings), length-map (map (entry_of strings) r.entries.items) (λ e. as_listed (text_of strings r.path) e.name e.offset))
+
+-- so many names are listed
+pub listed_count : (own strings : List ℕ) (rs : List PackageRecord) → length (listed (packages_of own strings rs)) ≡ name_count rs
+listed_count own strings [] = refl
+listed_count own strings (r ∷ rs) =
+    omega (arith, length-append (map (λ e. as_listed own e.name e.offset) (map (entry_of strings) r.entries.items)) (listed (map (package_of strings) rs)), listed_of strings rs,
+    length-map r.entries.items (entry_of strings), length-map (map (entry_of strings) r.entries.items) (λ e. as_listed own e.name e.offset))

@@ -12,7 +12,7 @@ ghost use Rattle.name_index.specs.Opening.{Opens, NamesBreach, ArePartsOf};
 
 use crate::fault::OpenFault;
 use crate::full::read_layout;
-use crate::lookup::{ListedRecord, entry, heading, look_up, name, names};
+use crate::lookup::{ListedRecord, count_names, entry, heading, look_up, name, names};
 use crate::records::{Layout, section_bytes};
 use position_codec::{Parts, Shape3};
 use std::alloc::Global;
@@ -99,6 +99,13 @@ impl Image {
         ensures { result ≡ names_at self.now.packages k }
     {
         names(self.layout.packages.as_slice(), k)
+    }
+
+    /// How many names all packages of the index list.
+    pub fn name_count(&self) -> u32
+        ensures { result ≡ length (listed self.now.packages) }
+    {
+        count_names(self.layout.packages.as_slice())
     }
 
     /// Name `i` of package `k`, and where its declaration stands in the data section.

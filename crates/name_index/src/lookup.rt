@@ -64,6 +64,18 @@ pub(crate) fn names(packages: &[PackageRecord], k: u32) -> u32
     }
 }
 
+/// How many names all packages list. The last one knows how many are listed before its own.
+pub(crate) fn count_names(packages: &[PackageRecord]) -> u32
+    requires numbered { IsNumbered 0 packages.now }
+    requires few { name_count packages.now < 2 ^ 32 }
+    ensures { result ≡ name_count packages.now }
+{
+    match packages.last() {
+        Some(last) => last.first + last.entries.as_slice().len() as u32,
+        None => 0,
+    }
+}
+
 /// The last package before which at most `k` names are listed. It looks at as many packages as their number has bits.
 fn holder_of(packages: &[PackageRecord], k: u32) -> Option<usize>
     requires { IsNumbered 0 packages.now }
