@@ -1,0 +1,4 @@
+pub mod Sources
+pub mod Names
+pub mod Answers
+pub mod Asked

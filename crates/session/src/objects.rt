@@ -1,0 +1,170 @@
+//! The names that were asked for, each read once.
+
+ghost use Rattle.std.specs.Prelude.{◌≡◌, ◌<◌, ◌≤◌, ◌^◌, ◌⊎◌, ◌↔◌, ℕ, [], length, Some, Ok, None, option_map, IfOk, IfSome, IsErrOf};
+ghost use Rattle.std.specs.List.{Contains};
+ghost use Rattle.std.specs.List.Sorted.{IsStrictlySortedBy};
+ghost use Rattle.std.specs.Ordering.{nat_cmp};
+ghost use Rattle.type_terms.specs.Arenas.{Extends};
+ghost use Rattle.type_terms.specs.Declarations.{Decl};
+ghost use Rattle.name_index.specs.Lookup.{IsListed};
+ghost use Rattle.session.specs.Answers.{Outcome, Gives, IsUnknown};
+ghost use Rattle.session.specs.Asked.{read_by, read_for, declared_numbers, outcome_of, IsInside, lent_outcome, IsLentInside};
+
+use crate::names::Session;
+use decl_reader::{ReadFault, read_decl};
+use std::alloc::Global;
+use std::collections::BTreeMap;
+use std::marker::{Brand, Model};
+use std::sync::ledger::{Blank, Ledger};
+use steps::Steps;
+use type_terms::{Arena, DeclNode};
+use wire_bytes::ByteFault;
+
+/// Why a name isn't looked up.
+#[derive(Debug, Drop, Clone, Copy, PartialEq, Eq)]
+pub enum LookUpFault {
+    /// The arena has as many nodes as it may have.
+    Nodes,
+    /// Memory is wanting.
+    OutOfMemory,
+}
+
+/// A declaration, and the arena of its types' nodes.
+#[derive(Clone, Copy)]
+pub struct Declaration<'a> {
+    pub node: &'a DeclNode,
+    pub arena: &'a Arena,
+}
+
+/// What the names are that were asked for. Each is read once, when it is first asked for.
+#[derive(Drop)]
+pub struct Objects<'a> {
+    session: Session<'a>,
+    arena: Arena,
+    read: BTreeMap<u32, Result<DeclNode, ByteFault>>,
+}
+
+impl<'a> Model for Objects<'a> {
+    ghost use Rattle.session.specs.Asked.{Asked, asked_of, AreRead};
+
+    ghost Value = { Asked };
+
+    ghost view = { λ o. asked_of o.session.image.now o.arena o.read.entries };
+
+    ghost invariant = { λ o. AreRead o.session.image.now o.arena.nodes o.read.entries };
+}
+
+impl<'a> Objects<'a> {
+    /// No name was asked for. The types of all names may have `limit` nodes together.
+    pub fn new(alloc: Global, session: Session<'a>, limit: u32) -> Objects<'a>
+        requires { limit ≤ 2 ^ 28 }
+        ensures file { result.file ≡ session.entry.image.now }
+        ensures empty { read_by result ≡ [] }
+    {
+        Objects {
+            session,
+            arena: Arena::new(alloc, limit),
+            read: BTreeMap::new(alloc),
+        }
+    }
+
+    /// The number of the name in the index, if it is listed. What it is was read then.
+    pub fn look_up(
+        &mut self,
+        alloc: Global,
+        path: &[u8],
+        name: &[u8],
+    ) -> Result<Option<u32>, LookUpFault>
+        ensures unknown { result ≡ Ok None → IsUnknown self.old.file path.now name.now }
+        ensures found { (number : ℕ) → result ≡ Ok (Some number) → (outcome : Outcome) × Gives self.old.file path.now name.now number outcome × (read_for (read_by self.new) number ≡ Some outcome) }
+        ensures stays { (number : ℕ) (outcome : Outcome) → read_for (read_by self.old) number ≡ Some outcome → read_for (read_by self.new) number ≡ Some outcome }
+        ensures only { (number : ℕ) (outcome : Outcome) → read_for (read_by self.new) number ≡ Some outcome → (read_for (read_by self.old) number ≡ Some outcome) ⊎ (result ≡ Ok (Some number)) }
+        ensures file { self.new.file ≡ self.old.file }
+        ensures full { IsErrOf result LookUpFault.Nodes → length self.new.nodes ≡ self.new.limit }
+    {
+        let Some(number) = self.session.image.entry_of(path, name) else {
+            return Ok(None);
+        };
+        if !self.read.contains_key(&number) {
+            let outcome = read_outcome(alloc, &self.session, number, &mut self.arena)?;
+            if self.read.insert(number, outcome).is_err() {
+                return Err(LookUpFault::OutOfMemory);
+            }
+        }
+        Ok(Some(number))
+    }
+
+    /// What was read for the name with this number in the index.
+    pub fn outcome(&self, number: u32) -> Option<Result<Declaration<'_>, ByteFault>>
+        ensures exact { option_map lent_outcome result ≡ read_for (read_by self.now) number }
+        ensures inside { IfSome result IsLentInside }
+    {
+        match self.read.get(&number)? {
+            Ok(node) => Some(Ok(Declaration {
+                node,
+                arena: &self.arena,
+            })),
+            Err(fault) => Some(Err(*fault)),
+        }
+    }
+
+    /// How many of the names have a declaration.
+    pub fn declared_count(&self) -> usize
+        ensures exact { result ≡ length (declared_numbers (read_by self.now)) }
+        ensures once { IsStrictlySortedBy nat_cmp (declared_numbers (read_by self.now)) }
+        ensures each { (number : ℕ) → Contains (declared_numbers (read_by self.now)) number ↔ ((decl : Decl) × (read_for (read_by self.now) number ≡ Some (Ok decl))) }
+    {
+        self.read.values().filter(|outcome| outcome.is_ok()).count()
+    }
+}
+
+/// What the name with this number in the index is. Nobody asks yet how many steps it takes.
+fn read_outcome(
+    alloc: Global,
+    session: &Session<'_>,
+    number: u32,
+    arena: &mut Arena,
+) -> Result<Result<DeclNode, ByteFault>, LookUpFault>
+    requires listed { (path name : _) × (offset : ℕ) × IsListed session.now.image.now.packages number path name offset }
+    ensures outcome { IfOk result (λ outcome. (path name : _) × Gives session.now.image.now path name number (outcome_of arena.new.nodes outcome)) }
+    ensures inside { IfOk result (IsInside (length arena.new.nodes)) }
+    ensures extends { Extends arena.old arena.new }
+    ensures full { IsErrOf result LookUpFault.Nodes → length arena.new.nodes ≡ arena.new.limit }
+{
+    read_counted::<Brand>(alloc, session, number, arena, Blank::new(1))
+}
+
+fn read_counted<L: Ledger>(
+    alloc: Global,
+    session: &Session<'_>,
+    number: u32,
+    arena: &mut Arena,
+    blank: Blank,
+) -> Result<Result<DeclNode, ByteFault>, LookUpFault>
+    requires listed { (path name : _) × (offset : ℕ) × IsListed session.now.image.now.packages number path name offset }
+    requires name { blank.name ≡ L.name }
+    requires parts { blank.parts ≡ L.parts }
+    requires some { 0 < blank.parts }
+    ensures outcome { IfOk result (λ outcome. (path name : _) × Gives session.now.image.now path name number (outcome_of arena.new.nodes outcome)) }
+    ensures inside { IfOk result (IsInside (length arena.new.nodes)) }
+    ensures extends { Extends arena.old arena.new }
+    ensures full { IsErrOf result LookUpFault.Nodes → length arena.new.nodes ≡ arena.new.limit }
+{
+    let Some((_, _, offset)) = session.image.entry(number) else {
+        unreachable!();
+    };
+    let mut steps = Steps::<L>::start(blank);
+    match read_decl(
+        alloc,
+        &session.image.parts(),
+        offset,
+        session,
+        arena,
+        &mut steps,
+    ) {
+        Ok(node) => Ok(Ok(node)),
+        Err(ReadFault::Bytes(fault)) => Ok(Err(fault)),
+        Err(ReadFault::Nodes) => Err(LookUpFault::Nodes),
+        Err(ReadFault::OutOfMemory) => Err(LookUpFault::OutOfMemory),
+    }
+}
