@@ -6,7 +6,7 @@ use Rattle.command_words.specs.Texts.{Source, source_word}
 use Rattle.name_index.specs.FirstBreach.{FirstBreach}
 use Rattle.exportdata_cmd.specs.Ending.{HasBody, IsTooLong, file_limit}
 use Rattle.exportdata_cmd.specs.declared.error_line.ErrorLine.{ErrorLine}
-use Rattle.exportdata_cmd.specs.declared.error_line.ErrorLine.TheVariants.{WrongWord, Missing, CannotRead, Damaged, LimitBytes, NoMemory}
+use Rattle.exportdata_cmd.specs.declared.error_line.ErrorLine.TheVariants.{WrongWord, Missing, CannotRead, Damaged, LimitBytes, LimitNodes, NoMemory}
 
 -- the file has these bytes, and they aren't too many
 pub record HasBytes (held : Option Held) (file bytes : List ℕ) : Type 0 where
@@ -21,4 +21,5 @@ IsCause source held before after (CannotRead file) = (file.now ≡ source.file) 
 IsCause source held before after (Damaged label fault) =
     (label.now ≡ source_word source) × ((bytes : List ℕ) × HasBytes held source.file bytes × FirstBreach source.path bytes fault)
 IsCause source held before after LimitBytes = IsTooLong held source.file
+IsCause source held before after LimitNodes = ⊥
 IsCause source held before after NoMemory = Unit {0}

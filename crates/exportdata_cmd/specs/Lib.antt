@@ -2,6 +2,8 @@ pub mod Printed
 pub mod ErrorLines
 pub mod Putting
 pub mod Listing
+pub mod Showing
 pub mod Ending
 pub mod Causes
 pub mod Carried
+pub mod LookedUp

@@ -20,6 +20,8 @@ pub enum ErrorLine<'a> {
     Damaged { label: &'a str, fault: ByteFault },
     /// The file is too long.
     LimitBytes,
+    /// The types that are read have too many nodes.
+    LimitNodes,
     /// Memory is wanting.
     NoMemory,
 }
@@ -35,7 +37,7 @@ impl ErrorLine<'_> {
             ErrorLine::WrongWord(_) => Status::Words,
             ErrorLine::Missing(_) | ErrorLine::Damaged { .. } => Status::Refused,
             ErrorLine::CannotRead(_) => Status::Files,
-            ErrorLine::LimitBytes => Status::Limit,
+            ErrorLine::LimitBytes | ErrorLine::LimitNodes => Status::Limit,
             ErrorLine::NoMemory => Status::Memory,
         }
     }
@@ -67,6 +69,7 @@ impl ErrorLine<'_> {
                 put_fault(line, fault)
             }
             ErrorLine::LimitBytes => line.extend_from_slice(b"limit bytes"),
+            ErrorLine::LimitNodes => line.extend_from_slice(b"limit nodes"),
             ErrorLine::NoMemory => line.extend_from_slice(b"no memory"),
         }
     }

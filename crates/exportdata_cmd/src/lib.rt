@@ -8,6 +8,7 @@ mod listing;
 mod opening;
 mod printing;
 mod putting;
+mod showing;
 mod top;
 
 pub use exits::Status;

@@ -1,5 +1,6 @@
 ghost use Rattle.std.specs.Prelude.{◌≡◌, ◌++◌, decimal, OnOk};
 ghost use Rattle.exportdata_cmd.specs.Printed.{fault_text, package_line, name_line};
+ghost use Rattle.exportdata_cmd.specs.Showing.{unknown, damaged, label, answer_text, decoded_line};
 
 use decl_text::put_printed;
 use itoa::Buffer;
@@ -59,4 +60,48 @@ pub fn write_name_line(line: &mut Vec<u8>, name: &[u8], offset: u64) -> Result<(
     put_printed(line, name)?;
     put_number(line, b" ", offset)?;
     line.extend_from_slice(b"\n")
+}
+
+/// Makes the line of a name that the file doesn't list.
+pub fn write_unknown_line(line: &mut Vec<u8>, path: &[u8], name: &[u8]) -> Result<(), AllocError>
+    ensures { OnOk result (line.new.items ≡ answer_text (record { path = path.now; name = name.now }) unknown) }
+{
+    line.clear();
+    put_label(line, path, name)?;
+    line.extend_from_slice(b" unknown\n")
+}
+
+/// Makes the line of a name whose declaration has a fault.
+pub fn write_damaged_line(
+    line: &mut Vec<u8>,
+    path: &[u8],
+    name: &[u8],
+    fault: ByteFault,
+) -> Result<(), AllocError>
+    ensures { OnOk result (line.new.items ≡ answer_text (record { path = path.now; name = name.now }) (damaged fault)) }
+{
+    line.clear();
+    put_label(line, path, name)?;
+    line.extend_from_slice(b" damaged ")?;
+    put_fault(line, fault)?;
+    line.extend_from_slice(b"\n")
+}
+
+/// Makes the line that says how many names are declared of all that are listed.
+pub fn write_decoded_line(line: &mut Vec<u8>, count: u64, all: u64) -> Result<(), AllocError>
+    ensures { OnOk result (line.new.items ≡ decoded_line count all) }
+{
+    line.clear();
+    put_number(line, b"decoded ", count)?;
+    put_number(line, b" of ", all)?;
+    line.extend_from_slice(b"\n")
+}
+
+/// Adds a name with the path of its package.
+fn put_label(line: &mut Vec<u8>, path: &[u8], name: &[u8]) -> Result<(), AllocError>
+    ensures { OnOk result (line.new.items ≡ line.old.items ++ label (record { path = path.now; name = name.now })) }
+{
+    put_printed(line, path)?;
+    line.extend_from_slice(b":")?;
+    put_printed(line, name)
 }

@@ -1,8 +1,8 @@
-ghost use Rattle.std.specs.Prelude.{◌≡◌, ◌≢◌, ◌<◌, ◌⊎◌, List, map};
+ghost use Rattle.std.specs.Prelude.{◌≡◌, ◌≢◌, ◌<◌, ◌⊎◌, ℕ, List, map};
 ghost use Rattle.std.specs.String.{string_bytes};
 ghost use Rattle.outside.specs.Counts.{Rose};
 ghost use Rattle.exportdata_cmd.specs.Putting.{sink};
-ghost use Rattle.exportdata_cmd.specs.Ending.{EndsWith, IsCutShort, CanList, IsRefusedWord};
+ghost use Rattle.exportdata_cmd.specs.Ending.{EndsWith, IsCutShort, CanList, CanShow, Shows, IsRefusedWord};
 
 use crate::command::{Stop, carry_out};
 use crate::error_line::ErrorLine;
@@ -41,6 +41,13 @@ pub fn run<R: Threads + Sync, F: Files, S: Sink, E: Sink, G: Gate>(
     ensures files { result ≡ Status.Files → Rose (F.faults files.old) (F.faults files.new) }
     ensures kept { F.held files.new ≡ F.held files.old }
 
+    // What can be shown is shown, unless its types have too many nodes, memory is wanting or a fault was met.
+    ensures shown { CanShow (map string_bytes words.now) (F.held files.old)
+        → ¬ Rose (F.faults files.old) (F.faults files.new)
+        → ¬ Rose (S.faults out.old) (S.faults out.new)
+        → ¬ Rose (E.faults err.old) (E.faults err.new)
+        → ((lines : List (List ℕ)) × Shows (map string_bytes words.now) (F.held files.old) result lines) ⊎ ((result ≡ Status.Memory) ⊎ (result ≡ Status.Limit)) }
+
     // What can be listed is listed, unless memory is wanting or a fault was met.
     ensures complete { CanList (map string_bytes words.now) (F.held files.old)
         → ¬ Rose (F.faults files.old) (F.faults files.new)
@@ -49,7 +56,7 @@ pub fn run<R: Threads + Sync, F: Files, S: Sink, E: Sink, G: Gate>(
         → (result ≡ Status.Done) ⊎ (result ≡ Status.Memory) }
 {
     match carry_out(alloc, words, files, out) {
-        Ok(()) => Status::Done,
+        Ok(status) => status,
         Err(Stop::Output) => Status::Output,
         Err(Stop::Error(error)) => report(alloc, error, err),
     }

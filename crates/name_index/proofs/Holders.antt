@@ -315,12 +315,22 @@ total (q ∷ rs) r numbered at = omega (arith, total_from (q ∷ rs) 0 (length (
 listed_of : (strings : List ℕ) (rs : List PackageRecord) → length (listed (map (package_of strings) rs)) ≡ name_count rs
 listed_of strings [] = refl
 listed_of strings (r ∷ rs) =
-    omega (arith, length-append (listed_in (package_of strings r)) (listed (map (package_of strings) rs)), listed_of strings rs,
-    length-map r.entries.items (entry_of strings), length-map (map (entry_of strings) r.entries.items) (λ e. as_listed (text_of strings r.path) e.name e.offset))
+    omega (
+      arith,
+      length-append (listed_in (package_of strings r)) (listed (map (package_of strings) rs)),
+      listed_of strings rs,
+      length-map r.entries.items (entry_of strings),
+      length-map (map (entry_of strings) r.entries.items) (λ e. as_listed (text_of strings r.path) e.name e.offset),
+    )
 
 -- so many names are listed
 pub listed_count : (own strings : List ℕ) (rs : List PackageRecord) → length (listed (packages_of own strings rs)) ≡ name_count rs
 listed_count own strings [] = refl
 listed_count own strings (r ∷ rs) =
-    omega (arith, length-append (map (λ e. as_listed own e.name e.offset) (map (entry_of strings) r.entries.items)) (listed (map (package_of strings) rs)), listed_of strings rs,
-    length-map r.entries.items (entry_of strings), length-map (map (entry_of strings) r.entries.items) (λ e. as_listed own e.name e.offset))
+    omega (
+      arith,
+      length-append (map (λ e. as_listed own e.name e.offset) (map (entry_of strings) r.entries.items)) (listed (map (package_of strings) rs)),
+      listed_of strings rs,
+      length-map r.entries.items (entry_of strings),
+      length-map (map (entry_of strings) r.entries.items) (λ e. as_listed own e.name e.offset),
+    )
