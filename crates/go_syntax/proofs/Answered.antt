@@ -1,5 +1,5 @@
 -- What the answer of a call says of a source.
-use Rattle.std.proofs.Common.{ℕ, ◌≤◌, List, [], Result, Ok, Err, refl, subst}
+use Rattle.std.proofs.Common.{ℕ, ◌≤◌, List, [], Result, Ok, Err, refl, subst, arith}
 use Rattle.std.specs.Prelude.{IfOk, IfErr}
 use Rattle.go_lexer.specs.declared.token_kinds.Token.{Token}
 use Rattle.go_syntax.specs.declared.tree.SourceFile.{SourceFile}
@@ -19,7 +19,7 @@ abbrev Reads : List ℕ → List Token → Result SourceFile Stop → Type 0
 Reads src tokens r = Gives (λ x. x) r (file_at 1000 (symbols_of src tokens))
 
 pub found_by : (src : List ℕ) (tokens : List Token) (r : Result SourceFile Stop) → Reads src tokens r → IfOk (answer_of src tokens r) (λ f. IsFile (symbols_of src tokens) f)
-found_by src tokens (Ok f) h = is_found 1000 (symbols_of src tokens) f h
+found_by src tokens (Ok f) h = is_found 1000 (omega arith) (symbols_of src tokens) f h
 found_by src tokens (Err stopped.OutOfMemory) h = tt
 found_by src tokens (Err (stopped.At f)) h = tt
 
@@ -29,10 +29,10 @@ only_at src tokens f (Err stopped.OutOfMemory) h = tt
 only_at src tokens f (Err (stopped.At g)) h = absurd cc
 
 pub only_by : (src : List ℕ) (tokens : List Token) (r : Result SourceFile Stop) → Reads src tokens r → (m : ℕ) (f : SourceFile) → IsFileOf m (symbols_of src tokens) f [] → m ≤ 1000 → Answers (answer_of src tokens r) f
-only_by src tokens r h m f w le = only_at src tokens f r (subst (Gives (λ (x : SourceFile). x) r) (is_only 1000 m (symbols_of src tokens) f w le) h)
+only_by src tokens r h m f w le = only_at src tokens f r (subst (Gives (λ (x : SourceFile). x) r) (is_only 1000 m (omega arith) (symbols_of src tokens) f w le) h)
 
 pub within_by : (src : List ℕ) (tokens : List Token) (r : Result SourceFile Stop) → Reads src tokens r → IfOk (answer_of src tokens r) (λ x. (m : ℕ) (f : SourceFile) → IsFileOf m (symbols_of src tokens) f [] → m ≤ 1000)
-within_by src tokens (Ok x) h = λ m f w. is_within 1000 m (symbols_of src tokens) f x h w
+within_by src tokens (Ok x) h = λ m f w. is_within 1000 m (omega arith) (symbols_of src tokens) f x h w
 within_by src tokens (Err stopped.OutOfMemory) h = tt
 within_by src tokens (Err (stopped.At f)) h = tt
 
@@ -45,4 +45,4 @@ told src tokens (stop.Call left at) h = (left, h)
 pub place_by : (src : List ℕ) (tokens : List Token) (r : Result SourceFile Stop) → Reads src tokens r → IfErr (answer_of src tokens r) (λ s. Tells src tokens s)
 place_by src tokens (Ok x) h = tt
 place_by src tokens (Err stopped.OutOfMemory) h = tt
-place_by src tokens (Err (stopped.At f)) h = told src tokens f (explains 1000 (symbols_of src tokens) f h)
+place_by src tokens (Err (stopped.At f)) h = told src tokens f (explains 1000 (omega arith) (symbols_of src tokens) f h)

@@ -1,5 +1,5 @@
 -- A file that is written is read again.
-use Rattle.std.proofs.Common.{◌≡◌, ℕ, max, true, false, List, [], ◌∷◌, ◌++◌, Some, None, Ok, refl, arith}
+use Rattle.std.proofs.Common.{◌≡◌, ◌≤◌, ℕ, max, true, false, List, [], ◌∷◌, ◌++◌, Some, None, Ok, refl, arith}
 use Rattle.go_syntax.specs.declared.symbols.Symbol.{Symbol}
 use Rattle.go_syntax.specs.declared.symbols.Symbol.TheVariants as t
 use Rattle.go_syntax.specs.declared.symbols.Ident.{Ident}
@@ -7,19 +7,22 @@ use Rattle.go_syntax.specs.declared.tree.Import.{Import}
 use Rattle.go_syntax.specs.declared.tree.Top.{Top}
 use Rattle.go_syntax.specs.declared.tree.Top.TheVariants as top
 use Rattle.go_syntax.specs.declared.tree.FuncDecl.{FuncDecl}
+use Rattle.go_syntax.specs.declared.tree.TParam.{TParam}
 use Rattle.go_syntax.specs.declared.tree.TypeExpr.{TypeExpr}
 use Rattle.go_syntax.specs.declared.tree.SourceFile.{SourceFile}
 use Rattle.go_syntax.specs.Reading.{Reply, starts, begins_type, is_comma, is_assign, is_open_paren, is_close_paren, is_import, is_var, is_type, is_const, is_func, row}
 use Rattle.go_syntax.specs.Names as names_of
 use Rattle.go_syntax.specs.Names.{IsNames}
+use Rattle.go_syntax.specs.Grammar.{IsType}
 use Rattle.go_syntax.specs.Types.{type_at}
 use Rattle.go_syntax.specs.declared.constants.Written.{Written}
 use Rattle.go_syntax.specs.Constants.{IsConstSpec, counted, const_spec_at}
+use Rattle.go_syntax.specs.Generics.{IsTParams, shows_length, tparams_at}
 use Rattle.go_syntax.specs.Skipped.{IsSkipped, skip}
 use Rattle.go_syntax.specs.Functions.{IsFunc, func_at}
 use Rattle.go_syntax.specs.Decls as d
 use Rattle.go_syntax.specs.Decls.{vars, defined, alias, source_file, IsImport, IsValue, IsVarSpec, IsTypeSpec, IsBlock, IsGroup, IsImports, IsTops, IsFileOf}
-use Rattle.go_syntax.specs.Files.{import_at, value_by, value_at, vars_typed, vars_rest, vars_more, var_spec_at, alias_by, defined_by, type_spec_at, single_at, group_at, const_group_at, func_group_at, decl_end, decl_at, import_step, top_step, imports_at, tops_at, file_tops, file_imports, file_front}
+use Rattle.go_syntax.specs.Files.{import_at, value_by, value_at, vars_typed, vars_rest, vars_more, var_spec_at, alias_by, defined_by, declared_by, type_first, type_spec_at, single_at, group_at, const_group_at, func_group_at, decl_end, decl_at, import_step, top_step, imports_at, tops_at, file_tops, file_imports, file_front}
 use Rattle.go_syntax.proofs.Rows.{Eats, eats_of}
 use Rattle.go_syntax.proofs.Steps.{steps_is}
 use Rattle.go_syntax.proofs.Groups.{Any}
@@ -27,6 +30,7 @@ use Rattle.go_syntax.proofs.ConstReads.{no_const, const_reads}
 use Rattle.go_syntax.proofs.ConstAgain.{ends_spec, Ended, names_not_open, names_not_close, const_not_open, const_not_close, const_again}
 use Rattle.go_syntax.proofs.SkipReads.{skip_again}
 use Rattle.go_syntax.proofs.FuncAgain.{func_again}
+use Rattle.go_syntax.proofs.GenericAgain.{agrees_more, some_again, type_opens_none, name_opens}
 use Rattle.go_syntax.proofs.FileReads.{import_reads, no_import_here, var_reads, no_var, spec_reads, no_spec, import_local, top_local}
 use Rattle.go_syntax.proofs.Agreeing.{Agrees, agrees_bind, agrees_from, sized, choose_other, names_again, row_none, row_last, row_more}
 use Rattle.go_syntax.proofs.Follows.{goes_on, Free, next_so, no_comma, type_begins}
@@ -95,11 +99,25 @@ var_again n m ts x rest (d.of_value c us i names vs r a w) e =
     rw (names_are n i names us (t.Assign c ∷ vs) a refl)
     (agrees_from n 0 (vars (i ∷ names) None) r (Ok (vars (i ∷ names) None, r)) (value_by (vars (i ∷ names) None) vs) (skipped_again (vars (i ∷ names) None) vs r w e) (refl, refl, omega arith))
 
+defined_again : (n m : ℕ) (i : Ident) (ps : List TParam) (ts : List Symbol) (ty : TypeExpr) (rest : List Symbol) → IsType m ts ty rest → Free rest → Agrees n m (defined i ps ty) rest (declared_by n i ps ts)
+defined_again n m i ps ts ty rest b e =
+    rw (choose_other is_assign ts (alias_by n i ps) (defined_by n i ps ts) (next_so begins_type is_assign true false ts type_no_assign (λ h. refl) (type_begins m ts ty rest b)))
+    (agrees_bind n m (sized n m ty) rest n m (defined i ps ty) rest (type_at n ts) (λ z ws. Ok (defined i ps z.0, ws)) (type_again m ts ty rest b e n) (λ x. x) (λ f. (refl, refl, f)))
+
+alias_again : (n m : ℕ) (i : Ident) (ps : List TParam) (a : ℕ) (ts : List Symbol) (ty : TypeExpr) (rest : List Symbol) → IsType m ts ty rest → Free rest → Agrees n m (alias i ps ty) rest (declared_by n i ps (t.Assign a ∷ ts))
+alias_again n m i ps a ts ty rest b e = agrees_bind n m (sized n m ty) rest n m (alias i ps ty) rest (type_at n ts) (λ z ws. Ok (alias i ps z.0, ws)) (type_again m ts ty rest b e n) (λ x. x) (λ f. (refl, refl, f))
+
+generic_spec : (n m k : ℕ) (i : Ident) (a : ℕ) (j : Ident) (ts : List Symbol) (ps : List TParam) (us : List Symbol) (x : Top) (rest : List Symbol) → starts shows_length ts ≡ false → IsTParams m (t.Ident j ∷ ts) ps us
+    → Agrees n k x rest (declared_by n i ps us) → Agrees n (max m k) x rest (type_first n i (t.OpenBracket a ∷ t.Ident j ∷ ts))
+generic_spec n m k i a j ts ps us x rest s w h =
+    rw (name_opens a j ts s)
+    (agrees_bind n m ps us n (max m k) x rest (tparams_at n (t.Ident j ∷ ts)) (declared_by n i) (some_again n m (t.Ident j ∷ ts) ps us refl w) (λ d. omega arith) (λ le. agrees_more n m k x rest (declared_by n i ps us) le h))
+
 spec_again : (n m : ℕ) (ts : List Symbol) (x : Top) (rest : List Symbol) → IsTypeSpec m ts x rest → Free rest → Agrees n m x rest (type_spec_at n ts)
-spec_again n m ts x rest (d.defines j i us ty r b) e =
-    rw (choose_other is_assign us (alias_by n i) (defined_by n i us) (next_so begins_type is_assign true false us type_no_assign (λ h. refl) (type_begins j us ty r b)))
-    (agrees_bind n j (sized n j ty) r n j (defined i ty) r (type_at n us) (λ z ws. Ok (defined i z.0, ws)) (type_again j us ty r b e n) (λ x. x) (λ f. (refl, refl, f)))
-spec_again n m ts x rest (d.renames j i a us ty r b) e = agrees_bind n j (sized n j ty) r n j (alias i ty) r (type_at n us) (λ z ws. Ok (alias i z.0, ws)) (type_again j us ty r b e n) (λ x. x) (λ f. (refl, refl, f))
+spec_again n m ts x rest (d.defines j i us ty r b) e = rw (type_opens_none j us ty r b) (defined_again n j i [] us ty r b e)
+spec_again n m ts x rest (d.renames j i a us ty r b) e = alias_again n j i [] a us ty r b e
+spec_again n m ts x rest (d.defines_generic k j i a l us ps vs ty r s w b) e = generic_spec n k j i a l us ps vs (defined i ps ty) r s w (defined_again n j i ps vs ty r b e)
+spec_again n m ts x rest (d.renames_generic k j i a l us ps c vs ty r s w b) e = generic_spec n k j i a l us ps (t.Assign c ∷ vs) (alias i ps ty) r s w (alias_again n j i ps c vs ty r b e)
 
 -- ---- groups
 
@@ -166,13 +184,17 @@ var_items n = record { eats_one = eats_of (Any IsVarSpec) (var_spec_at n) no_var
 spec_not_open : (m : ℕ) (ts : List Symbol) (x : Top) (rest : List Symbol) → IsTypeSpec m ts x rest → starts is_open_paren ts ≡ false
 spec_not_open m ts x rest (d.defines j i us ty r b) = refl
 spec_not_open m ts x rest (d.renames j i a us ty r b) = refl
+spec_not_open m ts x rest (d.defines_generic k j i a l us ps vs ty r s w b) = refl
+spec_not_open m ts x rest (d.renames_generic k j i a l us ps c vs ty r s w b) = refl
 
 spec_not_close : (m : ℕ) (ts : List Symbol) (x : Top) (rest : List Symbol) → IsTypeSpec m ts x rest → starts is_close_paren ts ≡ false
 spec_not_close m ts x rest (d.defines j i us ty r b) = refl
 spec_not_close m ts x rest (d.renames j i a us ty r b) = refl
+spec_not_close m ts x rest (d.defines_generic k j i a l us ps vs ty r s w b) = refl
+spec_not_close m ts x rest (d.renames_generic k j i a l us ps c vs ty r s w b) = refl
 
-spec_items : (n : ℕ) → Items n IsTypeSpec (type_spec_at n)
-spec_items n = record { eats_one = eats_of (Any IsTypeSpec) (type_spec_at n) no_spec (spec_reads n); again = λ m ts x rest w e. spec_again n m ts x rest w (ended_free rest e); no_open = spec_not_open; no_close = spec_not_close }
+spec_items : (n : ℕ) → 2 ≤ n → Items n IsTypeSpec (type_spec_at n)
+spec_items n two = record { eats_one = eats_of (Any IsTypeSpec) (type_spec_at n) no_spec (spec_reads n two); again = λ m ts x rest w e. spec_again n m ts x rest w (ended_free rest e); no_open = spec_not_open; no_close = spec_not_close }
 
 const_items : (n : ℕ) → Items n IsConstSpec (const_spec_at n)
 const_items n = record {
@@ -201,20 +223,20 @@ top_opens : (n : ℕ) (later : List Symbol → Reply (List Top)) (r : List Symbo
 top_opens n later [] S = refl
 top_opens n later (k ∷ r) S = rw (S.no_var_word, S.no_type_word, S.no_const_word, S.no_func_word) refl
 
-tops_again : (n m : ℕ) (ts : List Symbol) (xs : List Top) (rest : List Symbol) → IsTops m ts xs rest → Stopped rest → Agrees n m xs rest (tops_at n ts)
-tops_again n m ts xs rest (d.no_top r) S = rw (steps_is (top_step n) (top_local n) r, top_opens n (tops_at n) r S) (refl, refl, omega arith)
-tops_again n m ts xs rest (d.vars_too i j at s us vs ys zs r a b) S =
-    rw (steps_is (top_step n) (top_local n) (t.Var at ∷ us))
-    (decl_again n i j (group_at (var_spec_at n)) (tops_at n) us ys s vs zs r (group_again n IsVarSpec (var_spec_at n) (var_items n) i us ys (t.Semicolon s ∷ vs) a refl) (tops_again n j vs zs r b S))
-tops_again n m ts xs rest (d.types_too i j at s us vs ys zs r a b) S =
-    rw (steps_is (top_step n) (top_local n) (t.Type at ∷ us))
-    (decl_again n i j (group_at (type_spec_at n)) (tops_at n) us ys s vs zs r (group_again n IsTypeSpec (type_spec_at n) (spec_items n) i us ys (t.Semicolon s ∷ vs) a refl) (tops_again n j vs zs r b S))
-tops_again n m ts xs rest (d.consts_too i j at s us vs ws zs r a b) S =
-    rw (steps_is (top_step n) (top_local n) (t.Const at ∷ us))
-    (decl_again n i j (const_group_at n) (tops_at n) us (counted 0 0 ws) s vs zs r (consts_again n i us ws (t.Semicolon s ∷ vs) a refl) (tops_again n j vs zs r b S))
-tops_again n m ts xs rest (d.func_too i j at s us vs f zs r a b) S =
-    rw (steps_is (top_step n) (top_local n) (t.Func at ∷ us))
-    (decl_again n i j (func_group_at n) (tops_at n) us (top.Func f ∷ []) s vs zs r (func_alone n i us f s vs a) (tops_again n j vs zs r b S))
+tops_again : (n m : ℕ) → 2 ≤ n → (ts : List Symbol) (xs : List Top) (rest : List Symbol) → IsTops m ts xs rest → Stopped rest → Agrees n m xs rest (tops_at n ts)
+tops_again n m two ts xs rest (d.no_top r) S = rw (steps_is (top_step n) (top_local n two) r, top_opens n (tops_at n) r S) (refl, refl, omega arith)
+tops_again n m two ts xs rest (d.vars_too i j at s us vs ys zs r a b) S =
+    rw (steps_is (top_step n) (top_local n two) (t.Var at ∷ us))
+    (decl_again n i j (group_at (var_spec_at n)) (tops_at n) us ys s vs zs r (group_again n IsVarSpec (var_spec_at n) (var_items n) i us ys (t.Semicolon s ∷ vs) a refl) (tops_again n j two vs zs r b S))
+tops_again n m two ts xs rest (d.types_too i j at s us vs ys zs r a b) S =
+    rw (steps_is (top_step n) (top_local n two) (t.Type at ∷ us))
+    (decl_again n i j (group_at (type_spec_at n)) (tops_at n) us ys s vs zs r (group_again n IsTypeSpec (type_spec_at n) (spec_items n two) i us ys (t.Semicolon s ∷ vs) a refl) (tops_again n j two vs zs r b S))
+tops_again n m two ts xs rest (d.consts_too i j at s us vs ws zs r a b) S =
+    rw (steps_is (top_step n) (top_local n two) (t.Const at ∷ us))
+    (decl_again n i j (const_group_at n) (tops_at n) us (counted 0 0 ws) s vs zs r (consts_again n i us ws (t.Semicolon s ∷ vs) a refl) (tops_again n j two vs zs r b S))
+tops_again n m two ts xs rest (d.func_too i j at s us vs f zs r a b) S =
+    rw (steps_is (top_step n) (top_local n two) (t.Func at ∷ us))
+    (decl_again n i j (func_group_at n) (tops_at n) us (top.Func f ∷ []) s vs zs r (func_alone n i us f s vs a) (tops_again n j two vs zs r b S))
 
 tops_no_import : (m : ℕ) (ts : List Symbol) (xs : List Top) (rest : List Symbol) → IsTops m ts xs rest → starts is_import rest ≡ false → starts is_import ts ≡ false
 tops_no_import m ts xs rest (d.no_top r) e = e
@@ -231,7 +253,7 @@ after_clause n m j i ts us imports tops rest h g =
     agrees_bind n m imports us n (max m j) (source_file i imports tops) rest (imports_at ts) (file_tops n i) h (λ e. omega arith)
     (λ f. agrees_bind n j tops rest n (max m j) (source_file i imports tops) rest (tops_at n us) (λ zs vs. Ok (source_file i imports zs, vs)) g (λ e. omega arith) (λ w. (refl, refl, omega arith)))
 
-pub file_again : (n m : ℕ) (ts : List Symbol) (f : SourceFile) (rest : List Symbol) → IsFileOf m ts f rest → starts is_import rest ≡ false → Stopped rest → Agrees n m f rest (file_front n ts)
+pub file_again : (n m : ℕ) → 2 ≤ n → (ts : List Symbol) (f : SourceFile) (rest : List Symbol) → IsFileOf m ts f rest → starts is_import rest ≡ false → Stopped rest → Agrees n m f rest (file_front n ts)
 unfolding file_front
-file_again n m ts f rest (d.file i j at x s us vs imports tops r a b) e S =
-    after_clause n i j x us vs imports tops r (imports_again n i us imports vs a (tops_no_import j vs tops r b e)) (tops_again n j vs tops r b S)
+file_again n m two ts f rest (d.file i j at x s us vs imports tops r a b) e S =
+    after_clause n i j x us vs imports tops r (imports_again n i us imports vs a (tops_no_import j vs tops r b e)) (tops_again n j two vs tops r b S)

@@ -1,5 +1,5 @@
 -- What the readers of declarations and files do.
-use Rattle.std.proofs.Common.{◌≡◌, ℕ, max, ◌<◌, true, List, [], ◌∷◌, length, Some, None, Ok, refl, sym, subst, arith}
+use Rattle.std.proofs.Common.{◌≡◌, ℕ, max, ◌<◌, ◌≤◌, true, List, [], ◌∷◌, length, Some, None, Ok, refl, sym, subst, arith}
 use Rattle.go_syntax.specs.declared.symbols.Symbol.{Symbol}
 use Rattle.go_syntax.specs.declared.symbols.Symbol.TheVariants as t
 use Rattle.go_syntax.specs.declared.symbols.Ident.{Ident}
@@ -18,8 +18,8 @@ use Rattle.go_syntax.specs.Functions.{func_at}
 use Rattle.go_syntax.specs.declared.constants.Written.{Written}
 use Rattle.go_syntax.specs.Constants.{IsConstSpec, counted, const_spec_at}
 use Rattle.go_syntax.specs.Decls as d
-use Rattle.go_syntax.specs.Decls.{import, vars, defined, alias, source_file, IsImport, IsValue, IsVarSpec, IsTypeSpec, IsGroup, IsImports, IsTops, IsFileOf}
-use Rattle.go_syntax.specs.Files.{text_at, named_import, dot_import, import_at, value_by, value_at, vars_typed, vars_rest, vars_more, vars_first, var_spec_at, alias_by, defined_by, type_first, type_spec_at, group_at, const_group_at, func_group_at, decl_at, import_step, top_step, imports_at, tops_at, file_tops, file_imports, file_clause, file_name, file_front}
+use Rattle.go_syntax.specs.Decls.{import, vars, defined, source_file, IsImport, IsValue, IsVarSpec, IsTypeSpec, IsGroup, IsImports, IsTops, IsFileOf}
+use Rattle.go_syntax.specs.Files.{text_at, named_import, dot_import, import_at, value_by, value_at, vars_typed, vars_rest, vars_more, vars_first, var_spec_at, type_first, type_spec_at, group_at, const_group_at, func_group_at, decl_at, import_step, top_step, imports_at, tops_at, file_tops, file_imports, file_clause, file_name, file_front}
 use Rattle.go_syntax.proofs.Viable.{next_is, ReadsAt, Sample, Behind, Past, After, done_reads, refuse_reads, refuse_next, refuse_end, like_reads, as_reads, cons_reads, past_reads, choose_reads_on, choose_reads, bind_reads, value_reads}
 use Rattle.go_syntax.proofs.Marks.{semicolon, comma, assign, import_word, var_word, type_word, const_word, func_word, package_word}
 use Rattle.go_syntax.proofs.NameReads.{IsIdent, any_ident, ident_reads, names_reads, no_names, through_value}
@@ -28,6 +28,7 @@ use Rattle.go_syntax.proofs.TypeReads.{type_reads}
 use Rattle.go_syntax.proofs.ConstReads.{no_const, const_reads}
 use Rattle.go_syntax.proofs.SkipReads.{SkippedAt, skip_reads}
 use Rattle.go_syntax.proofs.FuncReads.{FuncAt, func_reads}
+use Rattle.go_syntax.proofs.GenericReads.{type_first_reads}
 use Rattle.go_syntax.proofs.Rows.{Eats, eats_of, choose_same}
 use Rattle.go_syntax.proofs.Steps.{Local, steps_read}
 use Rattle.go_syntax.proofs.Groups.{Any, group_reads, decl_same, decl_reads}
@@ -155,17 +156,11 @@ no_var x us w = no_var_of w.0 x us w.1
 abbrev SpecAt : List Symbol → Top → List Symbol → Type 0
 SpecAt = Any IsTypeSpec
 
-spec_first_reads : (n : ℕ) (i : Ident) (ts : List Symbol) → ReadsAt (Behind (t.Ident i) SpecAt) (type_first n i) ts (type_first n i ts)
-spec_first_reads n i ts =
-    choose_reads is_assign (Behind (t.Ident i) SpecAt) assign (alias_by n i) (defined_by n i) ts
-    (λ us. value_reads TypeAt (Past assign (Behind (t.Ident i) SpecAt)) (type_at n) (λ ty. alias i ty.0) us (λ vs ty rest w a. (w.0, d.renames w.0 i a vs ty.0 rest w.1)) (type_at n us) (type_reads n us))
-    (λ e. value_reads TypeAt (Behind (t.Ident i) SpecAt) (type_at n) (λ ty. defined i ty.0) ts (λ vs ty rest w. (w.0, d.defines w.0 i vs ty.0 rest w.1)) (type_at n ts) (type_reads n ts))
-
-pub spec_reads : (n : ℕ) (ts : List Symbol) → ReadsAt SpecAt (type_spec_at n) ts (type_spec_at n ts)
-spec_reads n ts =
+pub spec_reads : (n : ℕ) → 2 ≤ n → (ts : List Symbol) → ReadsAt SpecAt (type_spec_at n) ts (type_spec_at n ts)
+spec_reads n two ts =
     bind_reads IsIdent SpecAt ident_at (type_first n) ts
-    (λ i. record { tokens = some_type.tokens; made = defined i some_type.made.0; stands = λ tail us e. let s = some_type.stands tail in rw e (s.0, d.defines s.0 i _ _ tail s.1) })
-    (λ i us o. as_reads (Behind (t.Ident i) SpecAt) (After IsIdent SpecAt i) (type_first n i) us (type_first n i us) (λ vs x rest w ws e. rw e w) (spec_first_reads n i us))
+    (λ i. record { tokens = some_type.tokens; made = defined i [] some_type.made.0; stands = λ tail us e. let s = some_type.stands tail in rw e (s.0, d.defines s.0 i _ _ tail s.1) })
+    (λ i us o. as_reads (Behind (t.Ident i) SpecAt) (After IsIdent SpecAt i) (type_first n i) us (type_first n i us) (λ vs x rest w ws e. rw e w) (type_first_reads n i us two))
     (ident_at ts) (ident_reads ts)
 
 no_spec_of : (m : ℕ) (x : Top) (us : List Symbol) → IsTypeSpec m [] x us → ⊥
@@ -184,8 +179,8 @@ import_groups ts = group_reads IsImport import_at no_import_here import_reads ts
 pub var_groups : (n : ℕ) (ts : List Symbol) → ReadsAt (Any (IsGroup IsVarSpec)) (group_at (var_spec_at n)) ts (group_at (var_spec_at n) ts)
 var_groups n ts = group_reads IsVarSpec (var_spec_at n) no_var (var_reads n) ts
 
-pub type_groups : (n : ℕ) (ts : List Symbol) → ReadsAt (Any (IsGroup IsTypeSpec)) (group_at (type_spec_at n)) ts (group_at (type_spec_at n) ts)
-type_groups n ts = group_reads IsTypeSpec (type_spec_at n) no_spec (spec_reads n) ts
+pub type_groups : (n : ℕ) → 2 ≤ n → (ts : List Symbol) → ReadsAt (Any (IsGroup IsTypeSpec)) (group_at (type_spec_at n)) ts (group_at (type_spec_at n) ts)
+type_groups n two ts = group_reads IsTypeSpec (type_spec_at n) no_spec (spec_reads n two) ts
 
 -- a group of constants, counted
 abbrev pub ConstsAt : List Symbol → List Top → List Symbol → Type 0
@@ -208,12 +203,12 @@ import_local f g ts h =
     choose_same is_import (decl_at (group_at import_at) f) (decl_at (group_at import_at) g) (Ok ([], ts)) (Ok ([], ts)) ts
     (λ us less. decl_same (Any (IsGroup IsImport)) (group_at import_at) import_groups f g us (λ vs fewer. h vs (omega arith))) refl
 
-pub top_local : (n : ℕ) → Local (top_step n)
-top_local n f g ts h =
+pub top_local : (n : ℕ) → 2 ≤ n → Local (top_step n)
+top_local n two f g ts h =
     choose_same is_var (decl_at (group_at (var_spec_at n)) f) (decl_at (group_at (var_spec_at n)) g) _ _ ts
     (λ us less. decl_same (Any (IsGroup IsVarSpec)) (group_at (var_spec_at n)) (var_groups n) f g us (λ vs fewer. h vs (omega arith)))
     (choose_same is_type (decl_at (group_at (type_spec_at n)) f) (decl_at (group_at (type_spec_at n)) g) _ _ ts
-    (λ us less. decl_same (Any (IsGroup IsTypeSpec)) (group_at (type_spec_at n)) (type_groups n) f g us (λ vs fewer. h vs (omega arith)))
+    (λ us less. decl_same (Any (IsGroup IsTypeSpec)) (group_at (type_spec_at n)) (type_groups n two) f g us (λ vs fewer. h vs (omega arith)))
     (choose_same is_const (decl_at (const_group_at n) f) (decl_at (const_group_at n) g) _ _ ts
     (λ us less. decl_same ConstsAt (const_group_at n) (const_groups n) f g us (λ vs fewer. h vs (omega arith)))
     (choose_same is_func (decl_at (func_group_at n) f) (decl_at (func_group_at n) g) (Ok ([], ts)) (Ok ([], ts)) ts
@@ -256,34 +251,34 @@ const_step_reads n later ts h =
     (λ vs xs s ws ys rest w v at. rw w.1 (max w.2.0 v.0, d.consts_too w.2.0 v.0 at s vs ws w.0 ys rest w.2.1 v.1)) (λ rest. (0, d.no_top rest)) (λ vs fewer. h vs (omega arith)))
     (λ e. func_step_reads n later ts h)
 
-type_step_reads : (n : ℕ) (later : List Symbol → Reply (List Top)) (ts : List Symbol) → ((vs : List Symbol) → length vs < length ts → ReadsAt TopsAt later vs (later vs)) → ReadsAt TopsAt (types_or n later) ts (types_or n later ts)
-type_step_reads n later ts h =
+type_step_reads : (n : ℕ) → 2 ≤ n → (later : List Symbol → Reply (List Top)) (ts : List Symbol) → ((vs : List Symbol) → length vs < length ts → ReadsAt TopsAt later vs (later vs)) → ReadsAt TopsAt (types_or n later) ts (types_or n later ts)
+type_step_reads n two later ts h =
     choose_reads_on is_type TopsAt type_word (decl_at (group_at (type_spec_at n)) later) (consts_or n later) ts
-    (λ us less. decl_reads (Any (IsGroup IsTypeSpec)) (group_at (type_spec_at n)) (type_groups n) TopsAt (Past type_word TopsAt) later us
+    (λ us less. decl_reads (Any (IsGroup IsTypeSpec)) (group_at (type_spec_at n)) (type_groups n two) TopsAt (Past type_word TopsAt) later us
     (λ vs xs s ws ys rest w v at. (max w.0 v.0, d.types_too w.0 v.0 at s vs ws xs ys rest w.1 v.1)) (λ rest. (0, d.no_top rest)) (λ vs fewer. h vs (omega arith)))
     (λ e. const_step_reads n later ts h)
 
-top_step_reads : (n : ℕ) (later : List Symbol → Reply (List Top)) (ts : List Symbol) → ((vs : List Symbol) → length vs < length ts → ReadsAt TopsAt later vs (later vs)) → ReadsAt TopsAt (top_step n later) ts (top_step n later ts)
-top_step_reads n later ts h =
+top_step_reads : (n : ℕ) → 2 ≤ n → (later : List Symbol → Reply (List Top)) (ts : List Symbol) → ((vs : List Symbol) → length vs < length ts → ReadsAt TopsAt later vs (later vs)) → ReadsAt TopsAt (top_step n later) ts (top_step n later ts)
+top_step_reads n two later ts h =
     choose_reads_on is_var TopsAt var_word (decl_at (group_at (var_spec_at n)) later) (types_or n later) ts
     (λ us less. decl_reads (Any (IsGroup IsVarSpec)) (group_at (var_spec_at n)) (var_groups n) TopsAt (Past var_word TopsAt) later us
     (λ vs xs s ws ys rest w v at. (max w.0 v.0, d.vars_too w.0 v.0 at s vs ws xs ys rest w.1 v.1)) (λ rest. (0, d.no_top rest)) (λ vs fewer. h vs (omega arith)))
-    (λ e. type_step_reads n later ts h)
+    (λ e. type_step_reads n two later ts h)
 
 pub imports_read : (ts : List Symbol) → ReadsAt ImportsAt imports_at ts (imports_at ts)
 imports_read ts = steps_read ImportsAt import_step import_local import_step_reads ts
 
-pub tops_read : (n : ℕ) (ts : List Symbol) → ReadsAt TopsAt (tops_at n) ts (tops_at n ts)
-tops_read n ts = steps_read TopsAt (top_step n) (top_local n) (top_step_reads n) ts
+pub tops_read : (n : ℕ) → 2 ≤ n → (ts : List Symbol) → ReadsAt TopsAt (tops_at n) ts (tops_at n ts)
+tops_read n two ts = steps_read TopsAt (top_step n) (top_local n two) (top_step_reads n two) ts
 
 -- ---- files
 
 abbrev pub FileAt : List Symbol → SourceFile → List Symbol → Type 0
 FileAt = Any IsFileOf
 
-pub file_reads : (n : ℕ) (ts : List Symbol) → ReadsAt FileAt (file_front n) ts (file_front n ts)
+pub file_reads : (n : ℕ) → 2 ≤ n → (ts : List Symbol) → ReadsAt FileAt (file_front n) ts (file_front n ts)
 unfolding file_front
-file_reads n ts =
+file_reads n two ts =
     past_reads is_package FileAt package_word (file_name n) ts
     (record { tokens = t.Ident any_ident ∷ t.Semicolon 0 ∷ []; made = source_file any_ident [] []; stands = λ tail at. (0, d.file 0 0 at any_ident 0 tail tail [] [] tail (d.no_import tail) (d.no_top tail)) })
     (λ k us e. bind_reads IsIdent (Past package_word FileAt) ident_at (file_clause n) us
@@ -293,7 +288,7 @@ file_reads n ts =
     (λ k' ws e'. bind_reads ImportsAt (Past semicolon (After IsIdent (Past package_word FileAt) i)) imports_at (file_tops n i) ws
     (λ xs. record { tokens = []; made = source_file i xs []; stands = λ tail vs' w s us' e at. rw e (max w.0 0, d.file w.0 0 at i s vs' tail xs [] tail w.1 (d.no_top tail)) })
     (λ xs ws' o'. value_reads TopsAt (After ImportsAt (Past semicolon (After IsIdent (Past package_word FileAt) i)) xs) (tops_at n) (λ tops. source_file i xs tops) ws'
-    (λ us' tops rest v vs' w s ys e at. rw e (max w.0 v.0, d.file w.0 v.0 at i s vs' us' xs tops rest w.1 v.1)) (tops_at n ws') (tops_read n ws'))
+    (λ us' tops rest v vs' w s ys e at. rw e (max w.0 v.0, d.file w.0 v.0 at i s vs' us' xs tops rest w.1 v.1)) (tops_at n ws') (tops_read n two ws'))
     (imports_at ws) (imports_read ws)))
     (ident_at us) (ident_reads us))
 
@@ -305,5 +300,5 @@ import_eats = eats_of (Any IsImport) import_at no_import_here import_reads
 pub var_eats : (n : ℕ) → Eats (var_spec_at n)
 var_eats n = eats_of (Any IsVarSpec) (var_spec_at n) no_var (var_reads n)
 
-pub type_spec_eats : (n : ℕ) → Eats (type_spec_at n)
-type_spec_eats n = eats_of (Any IsTypeSpec) (type_spec_at n) no_spec (spec_reads n)
+pub type_spec_eats : (n : ℕ) → 2 ≤ n → Eats (type_spec_at n)
+type_spec_eats n two = eats_of (Any IsTypeSpec) (type_spec_at n) no_spec (spec_reads n two)

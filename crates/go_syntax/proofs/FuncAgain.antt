@@ -1,21 +1,24 @@
 -- A declaration of a function that is written is read again.
-use Rattle.std.proofs.Common.{◌≡◌, ℕ, Bool, true, false, List, [], ◌∷◌, Option, Some, None, Ok, refl, sym, ap, ◌∙◌}
+use Rattle.std.proofs.Common.{arith, max, ◌≡◌, ℕ, Bool, true, false, List, [], ◌∷◌, Option, Some, None, Ok, refl, sym, ap, ◌∙◌}
 use Rattle.go_syntax.specs.declared.symbols.Symbol.{Symbol}
 use Rattle.go_syntax.specs.declared.symbols.Symbol.TheVariants as t
 use Rattle.go_syntax.specs.declared.symbols.Ident.{Ident}
 use Rattle.go_syntax.specs.declared.tree.Receiver.{Receiver}
 use Rattle.go_syntax.specs.declared.tree.FuncDecl.{FuncDecl}
 use Rattle.go_syntax.specs.declared.tree.SigExpr.{SigExpr}
-use Rattle.go_syntax.specs.Reading.{Reply, ◌>>=◌, starts, is_open_bracket, is_open_brace, series}
+use Rattle.go_syntax.specs.declared.tree.TParam.{TParam}
+use Rattle.go_syntax.specs.Reading.{Reply, ◌>>=◌, starts, is_open_paren, is_open_bracket, is_open_brace, series}
 use Rattle.go_syntax.specs.Names.{ident_at}
 use Rattle.go_syntax.specs.Grammar.{IsSig}
 use Rattle.go_syntax.specs.Params.{sig_at}
 use Rattle.go_syntax.specs.Types.{type_at}
 use Rattle.go_syntax.specs.Functions as f
-use Rattle.go_syntax.specs.Functions.{receiver, function, IsIdents, IsArgs, IsReceiverEnd, IsReceiver, IsBody, IsFunc, idents, idents_at, args_at, receiver_end, receiver_base, receiver_at, body_close, body_by, body_at, func_sig, func_name, func_at}
+use Rattle.go_syntax.specs.Functions.{receiver, function, IsIdents, IsArgs, IsReceiverEnd, IsReceiver, IsBody, IsFunc, idents, idents_at, args_at, receiver_end, receiver_base, receiver_at, body_close, body_by, body_at, func_sig, func_at}
 use Rattle.go_syntax.proofs.Rows.{series_is}
 use Rattle.go_syntax.proofs.Agreeing.{Agrees, agrees_bind, agrees_from, sized, choose_other, series_opens}
-use Rattle.go_syntax.proofs.Follows.{Free}
+use Rattle.go_syntax.specs.Generics.{generic_at}
+use Rattle.go_syntax.proofs.Follows.{Free, next_so, sig_opens}
+use Rattle.go_syntax.proofs.GenericAgain.{agrees_more, generic_again}
 use Rattle.go_syntax.proofs.FuncReads.{ident_eats}
 use Rattle.go_syntax.proofs.SkipReads.{skip_again}
 use Rattle.go_syntax.proofs.TypeAgain.{sig_again}
@@ -67,12 +70,21 @@ body_again d us rest (f.body o c ts r w) e = rw (skip_again false ts (t.CloseBra
 
 -- ---- functions
 
-sig_body_again : (n m : ℕ) (r : Option Receiver) (i : Ident) (ts us : List Symbol) (sig : SigExpr) (rest : List Symbol) → IsSig m ts sig us → IsBody us rest → starts is_open_brace rest ≡ false → Free rest
-    → Agrees n m (function r i sig) rest (func_sig n r i ts)
-sig_body_again n m r i ts us sig rest a b e free =
-    agrees_bind n m (sized n m sig) us n m (function r i sig) rest (sig_at n (type_at n) ts) (λ z ws. body_at (function r i z.0) ws) (sig_again m ts sig us a (body_free us rest b free) n) (λ d. d)
-    (λ le. agrees_from n m (function r i sig) rest (Ok (function r i sig, rest)) (body_at (function r i sig) us) (body_again (function r i sig) us rest b e) (refl, refl, le))
+sig_body_again : (n m : ℕ) (r : Option Receiver) (i : Ident) (ps : List TParam) (ts us : List Symbol) (sig : SigExpr) (rest : List Symbol) → IsSig m ts sig us → IsBody us rest → starts is_open_brace rest ≡ false → Free rest
+    → Agrees n m (function r i ps sig) rest (func_sig n r i ps ts)
+sig_body_again n m r i ps ts us sig rest a b e free =
+    agrees_bind n m (sized n m sig) us n m (function r i ps sig) rest (sig_at n (type_at n) ts) (λ z ws. body_at (function r i ps z.0) ws) (sig_again m ts sig us a (body_free us rest b free) n) (λ d. d)
+    (λ le. agrees_from n m (function r i ps sig) rest (Ok (function r i ps sig, rest)) (body_at (function r i ps sig) us) (body_again (function r i ps sig) us rest b e) (refl, refl, le))
+
+paren_no_bracket : (k : Symbol) → is_open_paren k ≡ true → is_open_bracket k ≡ false
+paren_no_bracket (t.OpenBracket at) e = absurd cc
+paren_no_bracket _ e = refl
+
+sig_no_bracket : (m : ℕ) (ts : List Symbol) (sig : SigExpr) (rest : List Symbol) → IsSig m ts sig rest → starts is_open_bracket ts ≡ false
+sig_no_bracket m ts sig rest w = next_so is_open_paren is_open_bracket true false ts paren_no_bracket (λ d. refl) (sig_opens m ts sig rest w)
 
 pub func_again : (n m : ℕ) (ts : List Symbol) (x : FuncDecl) (rest : List Symbol) → IsFunc m ts x rest → starts is_open_brace rest ≡ false → Free rest → Agrees n m x rest (func_at n ts)
-func_again n m ts x rest (f.plain_func j i us vs sig r a b) e free = sig_body_again n j None i us vs sig r a b e free
-func_again n m ts x rest (f.method_func j o us y i vs ws sig r q a b) e free = rw (receiver_again us y (t.Ident i ∷ vs) q) (sig_body_again n j (Some y) i vs ws sig r a b e free)
+func_again n m ts x rest (f.plain_func k j i us ps vs ws sig r p a b) e free =
+    agrees_bind n k ps vs n (max k j) (function None i ps sig) r (generic_at n us) (func_sig n None i) (generic_again n k us ps vs p (sig_no_bracket j vs sig ws a)) (λ d. omega arith)
+    (λ le. agrees_more n k j (function None i ps sig) r (func_sig n None i ps vs) le (sig_body_again n j None i ps vs ws sig r a b e free))
+func_again n m ts x rest (f.method_func j o us y i vs ws sig r q a b) e free = rw (receiver_again us y (t.Ident i ∷ vs) q) (sig_body_again n j (Some y) i [] vs ws sig r a b e free)

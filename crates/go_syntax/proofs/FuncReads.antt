@@ -1,19 +1,22 @@
 -- What the readers of declarations of functions do.
-use Rattle.std.proofs.Common.{◌≡◌, ℕ, Bool, true, false, List, [], ◌∷◌, ◌++◌, Option, Some, None, Ok, refl, sym, subst}
+use Rattle.std.proofs.Common.{◌≡◌, ℕ, max, Bool, true, false, List, [], ◌∷◌, ◌++◌, Option, Some, None, Ok, refl, sym, subst}
 use Rattle.go_syntax.specs.declared.symbols.Symbol.{Symbol}
 use Rattle.go_syntax.specs.declared.symbols.Symbol.TheVariants as t
 use Rattle.go_syntax.specs.declared.symbols.Ident.{Ident}
 use Rattle.go_syntax.specs.declared.tree.Receiver.{Receiver}
 use Rattle.go_syntax.specs.declared.tree.FuncDecl.{FuncDecl}
 use Rattle.go_syntax.specs.declared.tree.SigExpr.{SigExpr}
+use Rattle.go_syntax.specs.declared.tree.TParam.{TParam}
 use Rattle.go_syntax.specs.Reading.{◌>>=◌, starts, is_comma, is_close_paren, is_open_paren, is_open_bracket, is_close_bracket, is_open_brace, is_close_brace, is_star, series_end, series}
 use Rattle.go_syntax.specs.Names.{ident_at}
 use Rattle.go_syntax.specs.Grammar.{IsSig}
 use Rattle.go_syntax.specs.Params.{sig_at}
 use Rattle.go_syntax.specs.Types.{type_at}
 use Rattle.go_syntax.specs.Skipped.{skip}
+use Rattle.go_syntax.specs.Generics as g
+use Rattle.go_syntax.specs.Generics.{generic_at}
 use Rattle.go_syntax.specs.Functions as f
-use Rattle.go_syntax.specs.Functions.{receiver, function, IsIdents, IsArgs, IsReceiverEnd, IsReceiver, IsBody, IsFunc, idents, idents_at, args_at, receiver_close, receiver_end, receiver_base, receiver_pointer, receiver_first, receiver_at, body_close, body_by, body_at, func_sig, func_name, method_by, func_at}
+use Rattle.go_syntax.specs.Functions.{receiver, function, IsIdents, IsArgs, IsReceiverEnd, IsReceiver, IsBody, IsFunc, idents, idents_at, args_at, receiver_close, receiver_end, receiver_base, receiver_pointer, receiver_first, receiver_at, body_close, body_by, body_at, func_sig, method_name, method_by, func_generic, func_name, func_at}
 use Rattle.go_syntax.proofs.Viable.{next_is, ends_so, ReadsAt, Sample, Behind, Past, After, done_reads, like_reads, as_reads, cons_reads, past_reads, choose_reads, bind_reads}
 use Rattle.go_syntax.proofs.Marks.{comma, close_paren, open_paren, open_bracket, close_bracket, open_brace, close_brace, star}
 use Rattle.go_syntax.proofs.NameReads.{IsIdent, any_ident, ident_reads}
@@ -23,6 +26,7 @@ use Rattle.go_syntax.proofs.TypeReads.{type_reads}
 use Rattle.go_syntax.proofs.Rows.{IsSeries, series_reads, end_reads, Eats, eats_of}
 use Rattle.go_syntax.proofs.SkipReads.{SkippedAt, skip_reads}
 use Rattle.go_syntax.proofs.Groups.{Any}
+use Rattle.go_syntax.proofs.GenericReads.{GenericAt, generic_reads}
 
 -- ---- the arguments of a receiver
 
@@ -155,52 +159,74 @@ body_read d ts =
 
 -- ---- functions
 
--- after the name
-abbrev SigBodyAt : Option Receiver → Ident → List Symbol → FuncDecl → List Symbol → Type 0
-SigBodyAt r i ts x rest = (m : ℕ) × (us : List Symbol) × (sig : SigExpr) × (x ≡ function r i sig) × IsSig m ts sig us × IsBody us rest
+-- after the name and the type parameters
+abbrev SigBodyAt : Option Receiver → Ident → List TParam → List Symbol → FuncDecl → List Symbol → Type 0
+SigBodyAt r i ps ts x rest = (m : ℕ) × (us : List Symbol) × (sig : SigExpr) × (x ≡ function r i ps sig) × IsSig m ts sig us × IsBody us rest
 
-sig_body_read : (n : ℕ) (r : Option Receiver) (i : Ident) (ts : List Symbol) → ReadsAt (SigBodyAt r i) (func_sig n r i) ts (func_sig n r i ts)
-sig_body_read n r i ts =
-    bind_reads SigAt (SigBodyAt r i) (sig_at n (type_at n)) (λ sig us. body_at (function r i sig.0) us) ts
-    (λ sig. record { tokens = []; made = function r i sig.0; stands = λ tail us w. (w.0, tail, sig.0, refl, w.1, f.no_body tail) })
-    (λ sig us o. as_reads (BodyAt (function r i sig.0)) (After SigAt (SigBodyAt r i) sig) (body_at (function r i sig.0)) us (body_at (function r i sig.0) us) (λ vs x rest w ws q. (q.0, vs, sig.0, w.0, q.1, w.1)) (body_read (function r i sig.0) us))
+sig_body_read : (n : ℕ) (r : Option Receiver) (i : Ident) (ps : List TParam) (ts : List Symbol) → ReadsAt (SigBodyAt r i ps) (func_sig n r i ps) ts (func_sig n r i ps ts)
+sig_body_read n r i ps ts =
+    bind_reads SigAt (SigBodyAt r i ps) (sig_at n (type_at n)) (λ sig us. body_at (function r i ps sig.0) us) ts
+    (λ sig. record { tokens = []; made = function r i ps sig.0; stands = λ tail us w. (w.0, tail, sig.0, refl, w.1, f.no_body tail) })
+    (λ sig us o. as_reads (BodyAt (function r i ps sig.0)) (After SigAt (SigBodyAt r i ps) sig) (body_at (function r i ps sig.0)) us (body_at (function r i ps sig.0) us) (λ vs x rest w ws q. (q.0, vs, sig.0, w.0, q.1, w.1)) (body_read (function r i ps sig.0) us))
     (sig_at n (type_at n) ts) (sig_reads n (type_at n) (type_reads n) ts)
 
-some_sig_body : (r : Option Receiver) (i : Ident) → Sample (SigBodyAt r i)
-some_sig_body r i = record { tokens = some_sig.tokens; made = function r i some_sig.made.0; stands = λ tail. let w = some_sig.stands tail in (w.0, tail, some_sig.made.0, refl, w.1, f.no_body tail) }
+some_sig_body : (r : Option Receiver) (i : Ident) (ps : List TParam) → Sample (SigBodyAt r i ps)
+some_sig_body r i ps = record { tokens = some_sig.tokens; made = function r i ps some_sig.made.0; stands = λ tail. let w = some_sig.stands tail in (w.0, tail, some_sig.made.0, refl, w.1, f.no_body tail) }
 
-abbrev NameAt : Option Receiver → List Symbol → FuncDecl → List Symbol → Type 0
-NameAt r ts x rest = (i : Ident) × (us : List Symbol) × (ts ≡ t.Ident i ∷ us) × SigBodyAt r i us x rest
+-- ---- methods
 
-name_read : (n : ℕ) (r : Option Receiver) (ts : List Symbol) → ReadsAt (NameAt r) (func_name n r) ts (func_name n r ts)
-name_read n r ts =
-    bind_reads IsIdent (NameAt r) ident_at (func_sig n r) ts
-    (λ i. let s = some_sig_body r i in record { tokens = s.tokens; made = s.made; stands = λ tail us e. (i, s.tokens ++ tail, e, s.stands tail) })
-    (λ i us o. as_reads (SigBodyAt r i) (After IsIdent (NameAt r) i) (func_sig n r i) us (func_sig n r i us) (λ vs x rest w ws e. (i, vs, e, w)) (sig_body_read n r i us))
+abbrev MethodAt : Receiver → List Symbol → FuncDecl → List Symbol → Type 0
+MethodAt r ts x rest = (i : Ident) × (us : List Symbol) × (ts ≡ t.Ident i ∷ us) × SigBodyAt (Some r) i [] us x rest
+
+method_name_read : (n : ℕ) (r : Receiver) (ts : List Symbol) → ReadsAt (MethodAt r) (method_name n r) ts (method_name n r ts)
+method_name_read n r ts =
+    bind_reads IsIdent (MethodAt r) ident_at (λ i us. func_sig n (Some r) i [] us) ts
+    (λ i. let s = some_sig_body (Some r) i [] in record { tokens = s.tokens; made = s.made; stands = λ tail us e. (i, s.tokens ++ tail, e, s.stands tail) })
+    (λ i us o. as_reads (SigBodyAt (Some r) i []) (After IsIdent (MethodAt r) i) (func_sig n (Some r) i []) us (func_sig n (Some r) i [] us) (λ vs x rest w ws e. (i, vs, e, w)) (sig_body_read n (Some r) i [] us))
     (ident_at ts) (ident_reads ts)
 
 abbrev pub FuncAt : List Symbol → FuncDecl → List Symbol → Type 0
 FuncAt = Any IsFunc
 
-method_as : (r : Receiver) (o : ℕ) (ts us : List Symbol) (x : FuncDecl) (rest : List Symbol) → IsReceiver ts r us → NameAt (Some r) us x rest → FuncAt (t.OpenParen o ∷ ts) x rest
+method_as : (r : Receiver) (o : ℕ) (ts us : List Symbol) (x : FuncDecl) (rest : List Symbol) → IsReceiver ts r us → MethodAt r us x rest → FuncAt (t.OpenParen o ∷ ts) x rest
 method_as r o ts us x rest q w = rw w.3.3 (w.3.0, f.method_func w.3.0 o ts r w.0 w.1 w.3.1 w.3.2 rest (subst (λ (vs : List Symbol). IsReceiver ts r vs) w.2 q) w.3.4 w.3.5)
-
-plain_as : (ts : List Symbol) (x : FuncDecl) (rest : List Symbol) → NameAt None ts x rest → FuncAt ts x rest
-plain_as ts x rest w = rw (w.2, w.3.3) (w.3.0, f.plain_func w.3.0 w.0 w.1 w.3.1 w.3.2 rest w.3.4 w.3.5)
 
 method_read : (n : ℕ) (ts : List Symbol) → ReadsAt (Past open_paren FuncAt) (method_by n) ts (method_by n ts)
 method_read n ts =
-    bind_reads IsReceiver (Past open_paren FuncAt) receiver_at (λ r us. func_name n (Some r) us) ts
-    (λ r. let s = some_sig_body (Some r) any_ident in record {
+    bind_reads IsReceiver (Past open_paren FuncAt) receiver_at (method_name n) ts
+    (λ r. let s = some_sig_body (Some r) any_ident [] in record {
       tokens = t.Ident any_ident ∷ s.tokens;
       made = s.made;
       stands = λ tail us q o. method_as r o us (t.Ident any_ident ∷ s.tokens ++ tail) s.made tail q (any_ident, s.tokens ++ tail, refl, s.stands tail);
     })
-    (λ r us o. as_reads (NameAt (Some r)) (After IsReceiver (Past open_paren FuncAt) r) (func_name n (Some r)) us (func_name n (Some r) us) (λ vs x rest w ws q o'. method_as r o' ws vs x rest q w) (name_read n (Some r) us))
+    (λ r us o. as_reads (MethodAt r) (After IsReceiver (Past open_paren FuncAt) r) (method_name n r) us (method_name n r us) (λ vs x rest w ws q o'. method_as r o' ws vs x rest q w) (method_name_read n r us))
     (receiver_at ts) (receiver_read ts)
 
+-- ---- functions
+
+-- after the name
+abbrev OfName : Ident → List Symbol → FuncDecl → List Symbol → Type 0
+OfName i = Behind (t.Ident i) FuncAt
+
+plain_as : (i : Ident) (ps : List TParam) (ts us : List Symbol) (x : FuncDecl) (rest : List Symbol) → GenericAt ts ps us → SigBodyAt None i ps us x rest → OfName i ts x rest
+plain_as i ps ts us x rest q w = rw w.3 (max q.0 w.0, f.plain_func q.0 w.0 i ts ps us w.1 w.2 rest q.1 w.4 w.5)
+
+func_generic_read : (n : ℕ) (i : Ident) (ts : List Symbol) → ReadsAt (OfName i) (func_generic n i) ts (func_generic n i ts)
+func_generic_read n i ts =
+    bind_reads GenericAt (OfName i) (generic_at n) (func_sig n None i) ts
+    (λ ps. let s = some_sig_body None i ps in record { tokens = s.tokens; made = s.made; stands = λ tail us w. plain_as i ps us (s.tokens ++ tail) s.made tail w (s.stands tail) })
+    (λ ps us o. as_reads (SigBodyAt None i ps) (After GenericAt (OfName i) ps) (func_sig n None i ps) us (func_sig n None i ps us) (λ vs x rest w ws q. plain_as i ps ws vs x rest q w) (sig_body_read n None i ps us))
+    (generic_at n ts) (generic_reads n ts)
+
+some_func : (i : Ident) → Sample (OfName i)
+some_func i = let s = some_sig_body None i [] in record { tokens = s.tokens; made = s.made; stands = λ tail. plain_as i [] (s.tokens ++ tail) (s.tokens ++ tail) s.made tail (0, g.plain (s.tokens ++ tail)) (s.stands tail) }
+
+name_read : (n : ℕ) (ts : List Symbol) → ReadsAt FuncAt (func_name n) ts (func_name n ts)
+name_read n ts =
+    bind_reads IsIdent FuncAt ident_at (func_generic n) ts
+    (λ i. let s = some_func i in record { tokens = s.tokens; made = s.made; stands = λ tail us e. rw e (s.stands tail) })
+    (λ i us o. as_reads (OfName i) (After IsIdent FuncAt i) (func_generic n i) us (func_generic n i us) (λ vs x rest w ws e. rw e w) (func_generic_read n i us))
+    (ident_at ts) (ident_reads ts)
+
 pub func_reads : (n : ℕ) (ts : List Symbol) → ReadsAt FuncAt (func_at n) ts (func_at n ts)
-func_reads n ts =
-    choose_reads is_open_paren FuncAt open_paren (method_by n) (func_name n None) ts
-    (λ us. method_read n us)
-    (λ e. as_reads (NameAt None) FuncAt (func_name n None) ts (func_name n None ts) plain_as (name_read n None ts))
+func_reads n ts = choose_reads is_open_paren FuncAt open_paren (method_by n) (func_name n) ts (λ us. method_read n us) (λ e. name_read n ts)

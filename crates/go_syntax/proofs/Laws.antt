@@ -14,8 +14,8 @@ use Rattle.go_syntax.proofs.FileReads.{FileAt, file_reads}
 use Rattle.go_syntax.proofs.FileAgain.{file_again}
 use Rattle.go_syntax.proofs.Agreeing.{Agrees}
 
-again : (n m : ℕ) (ts : List Symbol) (f : SourceFile) → IsFileOf m ts f [] → Agrees n m f [] (file_front n ts)
-again n m ts f w = file_again n m ts f [] w refl (record { no_var_word = refl; no_type_word = refl; no_const_word = refl; no_func_word = refl })
+again : (n m : ℕ) → 2 ≤ n → (ts : List Symbol) (f : SourceFile) → IsFileOf m ts f [] → Agrees n m f [] (file_front n ts)
+again n m two ts f w = file_again n m two ts f [] w refl (record { no_var_word = refl; no_type_word = refl; no_const_word = refl; no_func_word = refl })
 
 -- ---- a file is found
 
@@ -26,8 +26,8 @@ found_in n ts f z h e = at_rest z.1 h e
     at_rest [] h e = let same : z.0 ≡ f = cc in subst (λ x. IsFile ts x) same (subst (λ us. IsFile us z.0) (sym h.split) (h.stands []))
     at_rest (k ∷ us) h e = absurd cc
 
-pub is_found : (n : ℕ) (ts : List Symbol) (f : SourceFile) → file_at n ts ≡ Ok f → IsFile ts f
-is_found n ts f e = go (file_front n ts) (file_reads n ts) e
+pub is_found : (n : ℕ) → 2 ≤ n → (ts : List Symbol) (f : SourceFile) → file_at n ts ≡ Ok f → IsFile ts f
+is_found n two ts f e = go (file_front n ts) (file_reads n two ts) e
   where
     go : (r : Reply SourceFile) → ReadsAt FileAt (file_front n) ts r → (r >>= λ z. at_end z.0 z.1) ≡ Ok f → IsFile ts f
     go (Ok z) h e = found_in n ts f z h e
@@ -45,16 +45,16 @@ only_one n m f (Err (Unexpected k)) le h = absurd h
 only_one n m f (Err (DotImport k)) le h = absurd h
 only_one n m f (Err (Call k at)) le h = absurd h
 
-pub is_only : (n m : ℕ) (ts : List Symbol) (f : SourceFile) → IsFileOf m ts f [] → m ≤ n → file_at n ts ≡ Ok f
-is_only n m ts f w le = only_one n m f (file_front n ts) le (again n m ts f w)
+pub is_only : (n m : ℕ) → 2 ≤ n → (ts : List Symbol) (f : SourceFile) → IsFileOf m ts f [] → m ≤ n → file_at n ts ≡ Ok f
+is_only n m two ts f w le = only_one n m f (file_front n ts) le (again n m two ts f w)
 
 within : (n m : ℕ) (f : SourceFile) (r : Reply SourceFile) (x : SourceFile) → ended r ≡ Ok x → Agrees n m f [] r → m ≤ n
 within n m f (Ok z) x e h = h.2
 within n m f (Err g) x e h = absurd cc
 
 -- each file that the tokens are has no path that is too long, where one is found
-pub is_within : (n m : ℕ) (ts : List Symbol) (f x : SourceFile) → file_at n ts ≡ Ok x → IsFileOf m ts f [] → m ≤ n
-is_within n m ts f x e w = within n m f (file_front n ts) x e (again n m ts f w)
+pub is_within : (n m : ℕ) → 2 ≤ n → (ts : List Symbol) (f x : SourceFile) → file_at n ts ≡ Ok x → IsFileOf m ts f [] → m ≤ n
+is_within n m two ts f x e w = within n m f (file_front n ts) x e (again n m two ts f w)
 
 -- ---- the place of a fault
 
@@ -78,56 +78,56 @@ stops_if : (n : ℕ) (front rest : List Symbol) → ((r : List Symbol) (f : Sour
 stops_if n front [] h = λ f w. h [] f w.0 refl (subst (λ us. IsFileOf w.0 us f []) (sym (append-nil front)) w.1)
 stops_if n front (k ∷ ts) h = λ b. h (k ∷ b.0) b.1 b.2.0 refl (subst (λ us. IsFileOf b.2.0 us b.1 []) (append_assoc front (k ∷ []) b.0) b.2.1)
 
-unexpected_at : (n : ℕ) (ts : List Symbol) (k : ℕ) → ReadNot FileAt (file_front n) ts (Unexpected k) → IsUnexpected ts k
-unexpected_at n ts k h = record {
+unexpected_at : (n : ℕ) → 2 ≤ n → (ts : List Symbol) (k : ℕ) → ReadNot FileAt (file_front n) ts (Unexpected k) → IsUnexpected ts k
+unexpected_at n two ts k h = record {
   front = h.front;
   rest = h.rest;
   split = h.split;
   place = let e : Unexpected k ≡ Unexpected (length h.rest) = h.place in cc;
   begins = begins_of n ts (Unexpected k) h;
-  ends = stops_if n h.front h.rest (λ r f m e w. clash_unexpected n m (length r) f (file_front n (h.front ++ r)) (h.stays r e) (again n m (h.front ++ r) f w));
+  ends = stops_if n h.front h.rest (λ r f m e w. clash_unexpected n m (length r) f (file_front n (h.front ++ r)) (h.stays r e) (again n m two (h.front ++ r) f w));
 }
 
-dot_at : (n : ℕ) (ts : List Symbol) (k : ℕ) → ReadNot FileAt (file_front n) ts (DotImport k) → IsUnexpected ts k
-dot_at n ts k h = record {
+dot_at : (n : ℕ) → 2 ≤ n → (ts : List Symbol) (k : ℕ) → ReadNot FileAt (file_front n) ts (DotImport k) → IsUnexpected ts k
+dot_at n two ts k h = record {
   front = h.front;
   rest = h.rest;
   split = h.split;
   place = let e : DotImport k ≡ DotImport (length h.rest) = h.place in cc;
   begins = begins_of n ts (DotImport k) h;
-  ends = stops_if n h.front h.rest (λ r f m e w. clash_dot n m (length r) f (file_front n (h.front ++ r)) (h.stays r e) (again n m (h.front ++ r) f w));
+  ends = stops_if n h.front h.rest (λ r f m e w. clash_dot n m (length r) f (file_front n (h.front ++ r)) (h.stays r e) (again n m two (h.front ++ r) f w));
 }
 
-call_at : (n : ℕ) (ts : List Symbol) (k at : ℕ) → ReadNot FileAt (file_front n) ts (Call k at) → IsUnexpected ts k
-call_at n ts k at h = record {
+call_at : (n : ℕ) → 2 ≤ n → (ts : List Symbol) (k at : ℕ) → ReadNot FileAt (file_front n) ts (Call k at) → IsUnexpected ts k
+call_at n two ts k at h = record {
   front = h.front;
   rest = h.rest;
   split = h.split;
   place = let e : Call k at ≡ Call (length h.rest) at = h.place in cc;
   begins = begins_of n ts (Call k at) h;
-  ends = stops_if n h.front h.rest (λ r f m e w. clash_call n m (length r) at f (file_front n (h.front ++ r)) (h.stays r e) (again n m (h.front ++ r) f w));
+  ends = stops_if n h.front h.rest (λ r f m e w. clash_call n m (length r) at f (file_front n (h.front ++ r)) (h.stays r e) (again n m two (h.front ++ r) f w));
 }
 
 deepens_if : (n : ℕ) (front rest : List Symbol) → ((r : List Symbol) (f : SourceFile) (m : ℕ) → ahead rest ≡ ahead r → IsFileOf m (front ++ r) f [] → n < m) → Deepens n front rest
 deepens_if n front [] h = λ f m w. h [] f m refl (subst (λ us. IsFileOf m us f []) (sym (append-nil front)) w)
 deepens_if n front (k ∷ ts) h = λ more f m w. h (k ∷ more) f m refl w
 
-deep_at : (n : ℕ) (ts : List Symbol) (k : ℕ) → ReadNot FileAt (file_front n) ts (Deep k) → IsTooDeep n ts k
-deep_at n ts k h = record {
+deep_at : (n : ℕ) → 2 ≤ n → (ts : List Symbol) (k : ℕ) → ReadNot FileAt (file_front n) ts (Deep k) → IsTooDeep n ts k
+deep_at n two ts k h = record {
   front = h.front;
   rest = h.rest;
   split = h.split;
   place = let e : Deep k ≡ Deep (length h.rest) = h.place in cc;
   begins = begins_of n ts (Deep k) h;
-  deeper = deepens_if n h.front h.rest (λ r f m e w. clash_deep n m (length r) f (file_front n (h.front ++ r)) (h.stays r e) (again n m (h.front ++ r) f w));
+  deeper = deepens_if n h.front h.rest (λ r f m e w. clash_deep n m (length r) f (file_front n (h.front ++ r)) (h.stays r e) (again n m two (h.front ++ r) f w));
 }
 
 -- what is left after the last declaration
 clash_rest : (n m : ℕ) (f g : SourceFile) (k : Symbol) (ts : List Symbol) (r : Reply SourceFile) → r ≡ Ok (g, k ∷ ts) → Agrees n m f [] r → ⊥
 clash_rest n m f g k ts r e h = let a = subst (Agrees n m f []) e h in let b : k ∷ ts ≡ [] = a.1 in cc
 
-left_at : (n : ℕ) (ts : List Symbol) (g : SourceFile) (k : Symbol) (us : List Symbol) → ReadOk FileAt (file_front n) ts g (k ∷ us) → IsUnexpected ts (length (k ∷ us))
-left_at n ts g k us h = record {
+left_at : (n : ℕ) → 2 ≤ n → (ts : List Symbol) (g : SourceFile) (k : Symbol) (us : List Symbol) → ReadOk FileAt (file_front n) ts g (k ∷ us) → IsUnexpected ts (length (k ∷ us))
+left_at n two ts g k us h = record {
   front = h.front;
   rest = k ∷ us;
   split = h.split;
@@ -138,21 +138,21 @@ left_at n ts g k us h = record {
   where
     stop_left : (r : List Symbol) (f : SourceFile) (m : ℕ) → ahead (k ∷ us) ≡ ahead r → IsFileOf m (h.front ++ r) f [] → ⊥
     stop_left [] f m e w = absurd cc
-    stop_left (j ∷ r) f m e w = clash_rest n m f g j r (file_front n (h.front ++ j ∷ r)) (h.stays (j ∷ r) e) (again n m (h.front ++ j ∷ r) f w)
+    stop_left (j ∷ r) f m e w = clash_rest n m f g j r (file_front n (h.front ++ j ∷ r)) (h.stays (j ∷ r) e) (again n m two (h.front ++ j ∷ r) f w)
 
-explains_not : (n : ℕ) (ts : List Symbol) (f : Fault) → ReadNot FileAt (file_front n) ts f → Explains n ts f
-explains_not n ts (Unexpected k) h = unexpected_at n ts k h
-explains_not n ts (Deep k) h = deep_at n ts k h
-explains_not n ts (DotImport k) h = dot_at n ts k h
-explains_not n ts (Call k at) h = call_at n ts k at h
+explains_not : (n : ℕ) → 2 ≤ n → (ts : List Symbol) (f : Fault) → ReadNot FileAt (file_front n) ts f → Explains n ts f
+explains_not n two ts (Unexpected k) h = unexpected_at n two ts k h
+explains_not n two ts (Deep k) h = deep_at n two ts k h
+explains_not n two ts (DotImport k) h = dot_at n two ts k h
+explains_not n two ts (Call k at) h = call_at n two ts k at h
 
-explains_ok : (n : ℕ) (ts : List Symbol) (f : Fault) (g : SourceFile) (rest : List Symbol) → ReadOk FileAt (file_front n) ts g rest → at_end g rest ≡ Err f → Explains n ts f
-explains_ok n ts f g [] h e = absurd cc
-explains_ok n ts f g (k ∷ us) h e = let same : Unexpected (length (k ∷ us)) ≡ f = cc in subst (Explains n ts) same (left_at n ts g k us h)
+explains_ok : (n : ℕ) → 2 ≤ n → (ts : List Symbol) (f : Fault) (g : SourceFile) (rest : List Symbol) → ReadOk FileAt (file_front n) ts g rest → at_end g rest ≡ Err f → Explains n ts f
+explains_ok n two ts f g [] h e = absurd cc
+explains_ok n two ts f g (k ∷ us) h e = let same : Unexpected (length (k ∷ us)) ≡ f = cc in subst (Explains n ts) same (left_at n two ts g k us h)
 
-pub explains : (n : ℕ) (ts : List Symbol) (f : Fault) → file_at n ts ≡ Err f → Explains n ts f
-explains n ts f e = go (file_front n ts) (file_reads n ts) e
+pub explains : (n : ℕ) → 2 ≤ n → (ts : List Symbol) (f : Fault) → file_at n ts ≡ Err f → Explains n ts f
+explains n two ts f e = go (file_front n ts) (file_reads n two ts) e
   where
     go : (r : Reply SourceFile) → ReadsAt FileAt (file_front n) ts r → ended r ≡ Err f → Explains n ts f
-    go (Ok z) h e = explains_ok n ts f z.0 z.1 h e
-    go (Err g) h e = let same : g ≡ f = cc in subst (Explains n ts) same (explains_not n ts g h)
+    go (Ok z) h e = explains_ok n two ts f z.0 z.1 h e
+    go (Err g) h e = let same : g ≡ f = cc in subst (Explains n ts) same (explains_not n two ts g h)

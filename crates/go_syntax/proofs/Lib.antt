@@ -1,4 +1,5 @@
 pub mod Viable
+pub mod Uncons
 pub mod Marks
 pub mod Steps
 pub mod Rows
@@ -13,6 +14,7 @@ pub mod ExprTurns
 pub mod TypeReads
 pub mod Groups
 pub mod SkipReads
+pub mod GenericReads
 pub mod FuncReads
 pub mod ConstReads
 pub mod FileReads
@@ -26,6 +28,7 @@ pub mod FieldAgain
 pub mod ParamAgain
 pub mod ElemAgain
 pub mod TypeAgain
+pub mod GenericAgain
 pub mod FuncAgain
 pub mod ConstAgain
 pub mod FileAgain
@@ -37,3 +40,4 @@ pub mod ParamTurns
 pub mod SmallFits
 pub mod SkipTurns
 pub mod FuncTurns
+pub mod GenericTurns

@@ -132,14 +132,14 @@ import_steps = record {
       (λ vs h. some_smaller (Any (IsGroup IsImport)) (group_at import_at) import_groups vs xs us (group_at import_at vs) refl h) (λ h. absurd (none_is_none ts xs us h)) e;
 }
 
-pub top_steps : (n : ℕ) → Steps (top_decl n) (top_step n)
-top_steps n = record {
-  local = top_local n;
+pub top_steps : (n : ℕ) → 2 ≤ n → Steps (top_decl n) (top_step n)
+top_steps n two = record {
+  local = top_local n two;
   parts = top_is n;
   smaller = λ ts xs us e. choose_smaller is_var ts (some_decl (group_at (var_spec_at n))) _ xs us (past is_var ts) refl
       (λ vs h. some_smaller (Any (IsGroup IsVarSpec)) (group_at (var_spec_at n)) (var_groups n) vs xs us (group_at (var_spec_at n) vs) refl h)
       (λ o. choose_smaller is_type ts (some_decl (group_at (type_spec_at n))) _ xs us (past is_type ts) refl
-      (λ vs h. some_smaller (Any (IsGroup IsTypeSpec)) (group_at (type_spec_at n)) (type_groups n) vs xs us (group_at (type_spec_at n) vs) refl h)
+      (λ vs h. some_smaller (Any (IsGroup IsTypeSpec)) (group_at (type_spec_at n)) (type_groups n two) vs xs us (group_at (type_spec_at n) vs) refl h)
       (λ p. choose_smaller is_const ts (some_decl (const_group_at n)) _ xs us (past is_const ts) refl
       (λ vs h. some_smaller ConstsAt (const_group_at n) (const_groups n) vs xs us (const_group_at n vs) refl h)
       (λ q. choose_smaller is_func ts (some_decl (func_group_at n)) (no_decl ts) xs us (past is_func ts) refl

@@ -1,5 +1,5 @@
 -- The grammar of declarations and files, a production a case. The number is that of the nodes on a longest path of a tree.
-use Rattle.std.specs.Prelude.{ℕ, max, true, List, [], ◌∷◌, ◌++◌, Option, Some, None}
+use Rattle.std.specs.Prelude.{◌≡◌, ℕ, max, true, false, List, [], ◌∷◌, ◌++◌, Option, Some, None}
 use Rattle.go_syntax.specs.declared.symbols.Symbol.{Symbol}
 use Rattle.go_syntax.specs.declared.symbols.Symbol.TheVariants as t
 use Rattle.go_syntax.specs.declared.symbols.Ident.{Ident}
@@ -10,9 +10,12 @@ use Rattle.go_syntax.specs.declared.tree.Top.{Top}
 use Rattle.go_syntax.specs.declared.tree.Top.TheVariants as top
 use Rattle.go_syntax.specs.declared.tree.TypeExpr.{TypeExpr}
 use Rattle.go_syntax.specs.declared.tree.FuncDecl.{FuncDecl}
+use Rattle.go_syntax.specs.declared.tree.TParam.{TParam}
 use Rattle.go_syntax.specs.declared.tree.SourceFile.{SourceFile}
 use Rattle.go_syntax.specs.Names.{IsNames}
 use Rattle.go_syntax.specs.Grammar.{IsType}
+use Rattle.go_syntax.specs.Reading.{starts}
+use Rattle.go_syntax.specs.Generics.{IsTParams, shows_length}
 use Rattle.go_syntax.specs.Skipped.{IsSkipped}
 use Rattle.go_syntax.specs.Functions.{IsFunc}
 use Rattle.go_syntax.specs.Constants.{IsConstSpec, counted}
@@ -23,11 +26,11 @@ import name path = record { name = name; path = path; at = path.start }
 abbrev pub vars : List Ident → Option TypeExpr → Top
 vars names ty = top.Var (record { names = names; ty = ty })
 
-abbrev pub defined : Ident → TypeExpr → Top
-defined i ty = top.Defined (record { name = i; ty = ty })
+abbrev pub defined : Ident → List TParam → TypeExpr → Top
+defined i ps ty = top.Defined (record { name = i; tparams = ps; ty = ty })
 
-abbrev pub alias : Ident → TypeExpr → Top
-alias i ty = top.Alias (record { name = i; ty = ty })
+abbrev pub alias : Ident → List TParam → TypeExpr → Top
+alias i ps ty = top.Alias (record { name = i; tparams = ps; ty = ty })
 
 abbrev pub source_file : Ident → List Import → List Top → SourceFile
 source_file i imports tops = record { name = i; imports = imports; tops = tops }
@@ -49,10 +52,15 @@ pub data IsVarSpec : ℕ → List Symbol → Top → List Symbol → Type 0 wher
   of_value : (a : ℕ) (ts : List Symbol) (i : Ident) (names : List Ident) (us rest : List Symbol) → IsNames ts (i ∷ names) (t.Assign a ∷ us) → IsSkipped true us rest
       → IsVarSpec 0 ts (vars (i ∷ names) None) rest
 
--- TypeSpec = identifier [ "=" ] Type
+-- TypeSpec = identifier [ TypeParams ] [ "=" ] Type
 pub data IsTypeSpec : ℕ → List Symbol → Top → List Symbol → Type 0 where
-  defines : (n : ℕ) (i : Ident) (ts : List Symbol) (ty : TypeExpr) (rest : List Symbol) → IsType n ts ty rest → IsTypeSpec n (t.Ident i ∷ ts) (defined i ty) rest
-  renames : (n : ℕ) (i : Ident) (a : ℕ) (ts : List Symbol) (ty : TypeExpr) (rest : List Symbol) → IsType n ts ty rest → IsTypeSpec n (t.Ident i ∷ t.Assign a ∷ ts) (alias i ty) rest
+  defines : (n : ℕ) (i : Ident) (ts : List Symbol) (ty : TypeExpr) (rest : List Symbol) → IsType n ts ty rest → IsTypeSpec n (t.Ident i ∷ ts) (defined i [] ty) rest
+  renames : (n : ℕ) (i : Ident) (a : ℕ) (ts : List Symbol) (ty : TypeExpr) (rest : List Symbol) → IsType n ts ty rest → IsTypeSpec n (t.Ident i ∷ t.Assign a ∷ ts) (alias i [] ty) rest
+  -- a bracket and an identifier open type parameters, unless the token after them goes on with a length
+  defines_generic : (m n : ℕ) (i : Ident) (a : ℕ) (j : Ident) (ts : List Symbol) (ps : List TParam) (us : List Symbol) (ty : TypeExpr) (rest : List Symbol)
+      → starts shows_length ts ≡ false → IsTParams m (t.Ident j ∷ ts) ps us → IsType n us ty rest → IsTypeSpec (max m n) (t.Ident i ∷ t.OpenBracket a ∷ t.Ident j ∷ ts) (defined i ps ty) rest
+  renames_generic : (m n : ℕ) (i : Ident) (a : ℕ) (j : Ident) (ts : List Symbol) (ps : List TParam) (e : ℕ) (us : List Symbol) (ty : TypeExpr) (rest : List Symbol)
+      → starts shows_length ts ≡ false → IsTParams m (t.Ident j ∷ ts) ps (t.Assign e ∷ us) → IsType n us ty rest → IsTypeSpec (max m n) (t.Ident i ∷ t.OpenBracket a ∷ t.Ident j ∷ ts) (alias i ps ty) rest
 
 -- specifications up to the parenthesis that closes; the last semicolon may be left out
 pub data IsBlock {X : Type 0} (F : ℕ → List Symbol → X → List Symbol → Type 0) : ℕ → List Symbol → List X → List Symbol → Type 0 where

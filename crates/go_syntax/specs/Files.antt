@@ -1,5 +1,5 @@
 -- Declarations and files, as they are read.
-use Rattle.std.specs.Prelude.{ℕ, true, List, [], ◌∷◌, ◌++◌, length, Option, Some, None, Result, Ok, Err}
+use Rattle.std.specs.Prelude.{ℕ, Bool, true, false, List, [], ◌∷◌, ◌++◌, length, Option, Some, None, Result, Ok, Err}
 use Rattle.go_syntax.specs.declared.symbols.Symbol.{Symbol}
 use Rattle.go_syntax.specs.declared.symbols.Symbol.TheVariants as t
 use Rattle.go_syntax.specs.declared.symbols.Ident.{Ident}
@@ -8,12 +8,14 @@ use Rattle.go_syntax.specs.declared.faults.Fault.{Fault}
 use Rattle.go_syntax.specs.declared.faults.Fault.TheVariants.{DotImport}
 use Rattle.go_syntax.specs.declared.constants.Written.{Written}
 use Rattle.go_syntax.specs.declared.tree.Import.{Import}
+use Rattle.go_syntax.specs.declared.tree.TParam.{TParam}
 use Rattle.go_syntax.specs.declared.tree.Top.{Top}
 use Rattle.go_syntax.specs.declared.tree.Top.TheVariants as top
 use Rattle.go_syntax.specs.declared.tree.SourceFile.{SourceFile}
-use Rattle.go_syntax.specs.Reading.{Reply, ◌>>=◌, unexpected, past, choose, is_package, is_semicolon, is_comma, is_assign, is_open_paren, is_close_paren, is_import, is_var, is_type, is_const, is_func, row, steps}
+use Rattle.go_syntax.specs.Reading.{Reply, ◌>>=◌, unexpected, past, choose, is_package, is_semicolon, is_comma, is_assign, is_open_paren, is_close_paren, is_open_bracket, is_import, is_var, is_type, is_const, is_func, row, steps}
 use Rattle.go_syntax.specs.Names.{ident_at, names_at, names_more}
 use Rattle.go_syntax.specs.Types.{type_at}
+use Rattle.go_syntax.specs.Generics.{opens_params, tparams_at}
 use Rattle.go_syntax.specs.Skipped.{skip}
 use Rattle.go_syntax.specs.Functions.{func_at}
 use Rattle.go_syntax.specs.Constants.{counted, const_spec_at}
@@ -58,14 +60,26 @@ vars_first n i ts = choose (past is_comma ts) (vars_more n i) (vars_rest n (i �
 abbrev pub var_spec_at : ℕ → List Symbol → Reply Top
 var_spec_at n ts = ident_at ts >>= λ i. vars_first n i.0 i.1
 
-abbrev pub alias_by : ℕ → Ident → List Symbol → Reply Top
-alias_by n i ts = type_at n ts >>= λ ty. Ok (alias i ty.0.0, ty.1)
+abbrev pub alias_by : ℕ → Ident → List TParam → List Symbol → Reply Top
+alias_by n i ps ts = type_at n ts >>= λ ty. Ok (alias i ps ty.0.0, ty.1)
 
-abbrev pub defined_by : ℕ → Ident → List Symbol → Reply Top
-defined_by n i ts = type_at n ts >>= λ ty. Ok (defined i ty.0.0, ty.1)
+abbrev pub defined_by : ℕ → Ident → List TParam → List Symbol → Reply Top
+defined_by n i ps ts = type_at n ts >>= λ ty. Ok (defined i ps ty.0.0, ty.1)
 
+-- after the type parameters
+abbrev pub declared_by : ℕ → Ident → List TParam → List Symbol → Reply Top
+declared_by n i ps ts = choose (past is_assign ts) (alias_by n i ps) (defined_by n i ps ts)
+
+abbrev pub generic_by : ℕ → Ident → List Symbol → Reply Top
+generic_by n i ts = tparams_at n ts >>= λ ps. declared_by n i ps.0 ps.1
+
+abbrev pub type_if : Bool → ℕ → Ident → List Symbol → Reply Top
+type_if true n i ts = past is_open_bracket ts >>= λ us. generic_by n i us
+type_if false n i ts = declared_by n i [] ts
+
+-- after the name
 abbrev pub type_first : ℕ → Ident → List Symbol → Reply Top
-type_first n i ts = choose (past is_assign ts) (alias_by n i) (defined_by n i ts)
+type_first n i ts = type_if (opens_params ts) n i ts
 
 abbrev pub type_spec_at : ℕ → List Symbol → Reply Top
 type_spec_at n ts = ident_at ts >>= λ i. type_first n i.0 i.1

@@ -1,23 +1,25 @@
 -- Declarations of functions and methods, as they are written and as they are read.
-use Rattle.std.specs.Prelude.{◌≡◌, ℕ, Bool, true, false, List, [], ◌∷◌, ◌++◌, Option, Some, None, Ok}
+use Rattle.std.specs.Prelude.{◌≡◌, ℕ, max, Bool, true, false, List, [], ◌∷◌, ◌++◌, Option, Some, None, Ok}
 use Rattle.go_syntax.specs.declared.symbols.Symbol.{Symbol}
 use Rattle.go_syntax.specs.declared.symbols.Symbol.TheVariants as t
 use Rattle.go_syntax.specs.declared.symbols.Ident.{Ident}
 use Rattle.go_syntax.specs.declared.tree.Receiver.{Receiver}
 use Rattle.go_syntax.specs.declared.tree.FuncDecl.{FuncDecl}
 use Rattle.go_syntax.specs.declared.tree.SigExpr.{SigExpr}
+use Rattle.go_syntax.specs.declared.tree.TParam.{TParam}
 use Rattle.go_syntax.specs.Reading.{Reply, ◌>>=◌, past, choose, starts, is_comma, is_close_paren, is_open_paren, is_open_bracket, is_close_bracket, is_open_brace, is_close_brace, is_star, Shape, series_item, series}
 use Rattle.go_syntax.specs.Names.{ident_at, ident_or}
 use Rattle.go_syntax.specs.Grammar.{IsSig}
 use Rattle.go_syntax.specs.Params.{sig_at}
 use Rattle.go_syntax.specs.Types.{type_at}
+use Rattle.go_syntax.specs.Generics.{IsGeneric, generic_at}
 use Rattle.go_syntax.specs.Skipped.{IsSkipped, skip}
 
 abbrev pub receiver : Option Ident → Bool → Ident → List Ident → Receiver
 receiver name pointer base args = record { name = name; pointer = pointer; base = base; args = args }
 
-abbrev pub function : Option Receiver → Ident → SigExpr → FuncDecl
-function r i sig = record { receiver = r; name = i; sig = sig }
+abbrev pub function : Option Receiver → Ident → List TParam → SigExpr → FuncDecl
+function r i ps sig = record { receiver = r; name = i; tparams = ps; sig = sig }
 
 -- ---- the grammar
 
@@ -50,11 +52,12 @@ pub data IsBody : List Symbol → List Symbol → Type 0 where
   no_body : (rest : List Symbol) → IsBody rest rest
   body : (o c : ℕ) (ts rest : List Symbol) → IsSkipped false ts (t.CloseBrace c ∷ rest) → IsBody (t.OpenBrace o ∷ ts) rest
 
--- FunctionDecl = "func" identifier Signature [ Body ], MethodDecl = "func" Receiver identifier Signature [ Body ], after the word
+-- FunctionDecl = "func" identifier [ TypeParams ] Signature [ Body ], MethodDecl = "func" Receiver identifier Signature [ Body ], after the word
 pub data IsFunc : ℕ → List Symbol → FuncDecl → List Symbol → Type 0 where
-  plain_func : (n : ℕ) (i : Ident) (ts us : List Symbol) (sig : SigExpr) (rest : List Symbol) → IsSig n ts sig us → IsBody us rest → IsFunc n (t.Ident i ∷ ts) (function None i sig) rest
+  plain_func : (m n : ℕ) (i : Ident) (ts : List Symbol) (ps : List TParam) (us vs : List Symbol) (sig : SigExpr) (rest : List Symbol) → IsGeneric m ts ps us → IsSig n us sig vs → IsBody vs rest
+      → IsFunc (max m n) (t.Ident i ∷ ts) (function None i ps sig) rest
   method_func : (n o : ℕ) (ts : List Symbol) (r : Receiver) (i : Ident) (us vs : List Symbol) (sig : SigExpr) (rest : List Symbol) → IsReceiver ts r (t.Ident i ∷ us) → IsSig n us sig vs → IsBody vs rest
-      → IsFunc n (t.OpenParen o ∷ ts) (function (Some r) i sig) rest
+      → IsFunc n (t.OpenParen o ∷ ts) (function (Some r) i [] sig) rest
 
 -- ---- reading
 
@@ -102,15 +105,21 @@ body_by f ts = skip false [] ts >>= λ x. body_close f x.1
 abbrev pub body_at : FuncDecl → List Symbol → Reply FuncDecl
 body_at f ts = choose (past is_open_brace ts) (body_by f) (Ok (f, ts))
 
--- after the name
-abbrev pub func_sig : ℕ → Option Receiver → Ident → List Symbol → Reply FuncDecl
-func_sig n r i ts = sig_at n (type_at n) ts >>= λ sig. body_at (function r i sig.0.0) sig.1
+-- after the name and the type parameters
+abbrev pub func_sig : ℕ → Option Receiver → Ident → List TParam → List Symbol → Reply FuncDecl
+func_sig n r i ps ts = sig_at n (type_at n) ts >>= λ sig. body_at (function r i ps sig.0.0) sig.1
 
-abbrev pub func_name : ℕ → Option Receiver → List Symbol → Reply FuncDecl
-func_name n r ts = ident_at ts >>= λ i. func_sig n r i.0 i.1
+abbrev pub method_name : ℕ → Receiver → List Symbol → Reply FuncDecl
+method_name n r ts = ident_at ts >>= λ i. func_sig n (Some r) i.0 [] i.1
 
 abbrev pub method_by : ℕ → List Symbol → Reply FuncDecl
-method_by n ts = receiver_at ts >>= λ r. func_name n (Some r.0) r.1
+method_by n ts = receiver_at ts >>= λ r. method_name n r.0 r.1
+
+abbrev pub func_generic : ℕ → Ident → List Symbol → Reply FuncDecl
+func_generic n i ts = generic_at n ts >>= λ ps. func_sig n None i ps.0 ps.1
+
+abbrev pub func_name : ℕ → List Symbol → Reply FuncDecl
+func_name n ts = ident_at ts >>= λ i. func_generic n i.0 i.1
 
 abbrev pub func_at : ℕ → List Symbol → Reply FuncDecl
-func_at n ts = choose (past is_open_paren ts) (method_by n) (func_name n None ts)
+func_at n ts = choose (past is_open_paren ts) (method_by n) (func_name n ts)

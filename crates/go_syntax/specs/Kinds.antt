@@ -8,6 +8,7 @@ use Rattle.go_syntax.specs.Operands.{begins_expr, goes_on}
 use Rattle.go_syntax.specs.Params.{shows_types, shows_type}
 use Rattle.go_syntax.specs.Elements.{shows_elem}
 use Rattle.go_syntax.specs.Types.{shows_embedded}
+use Rattle.go_syntax.specs.Generics.{shows_length}
 
 abbrev pub is_of : Kind → Symbol → Bool
 is_of k.Ident = is_ident
@@ -41,3 +42,4 @@ is_of k.ParamEnd = shows_type
 is_of k.ElementEnd = shows_elem
 is_of k.Star = is_star
 is_of k.Func = is_func
+is_of k.LengthEnd = shows_length

@@ -7,6 +7,7 @@ pub mod Params
 pub mod Elements
 pub mod Types
 pub mod Constants
+pub mod Generics
 pub mod Kinds
 pub mod Skipped
 pub mod Functions

@@ -1,15 +1,17 @@
+ghost use Rattle.std.specs.Prelude.{◌≤◌};
 ghost use Rattle.go_syntax.specs.Reading.{Exactly, Gives, row, is_close_paren};
-ghost use Rattle.go_syntax.specs.Files.{text_at, named_import, import_at, value_at, vars_typed, vars_rest, vars_first, type_first, group_at, const_group_at, func_group_at, some_decl, import_decl, top_decl};
+ghost use Rattle.go_syntax.specs.Files.{text_at, named_import, import_at, value_at, vars_typed, vars_rest, vars_first, declared_by, type_first, group_at, const_group_at, func_group_at, some_decl, import_decl, top_decl};
 ghost use Rattle.go_syntax.specs.Specs.{spec_of};
 
 use crate::constants::const_group;
 use crate::faults::{Fault, Stop};
 use crate::functions::func_decl;
+use crate::generics::{opens_params, type_params};
 use crate::names::more_names;
 use crate::reading::{Kind, ident, past, single};
 use crate::skipped::skipped;
 use crate::symbols::{Ident, Span, Symbol};
-use crate::tree::{Import, Top, TypeSpec, VarSpec};
+use crate::tree::{Import, TParam, Top, TypeSpec, VarSpec};
 use crate::types::type_expr;
 use sqlite_items::Items;
 use std::alloc::Global;
@@ -127,6 +129,24 @@ fn first_var(
     after_var_names(alloc, names, tokens, left)
 }
 
+/// A declared type, after its name and type parameters.
+fn declared(
+    alloc: Global,
+    name: Ident,
+    tparams: Items<TParam>,
+    tokens: &[Symbol],
+    left: usize,
+) -> Result<(Top, &[Symbol]), Stop>
+    ensures { Gives (λ x. (x.0, x.1.now)) result (declared_by left name tparams tokens.now) }
+{
+    if let Ok(rest) = past(Kind::Assign, tokens) {
+        let ((ty, _), rest) = type_expr(alloc, rest, left)?;
+        return Ok((Top::Alias(TypeSpec { name, tparams, ty }), rest));
+    }
+    let ((ty, _), rest) = type_expr(alloc, tokens, left)?;
+    Ok((Top::Defined(TypeSpec { name, tparams, ty }), rest))
+}
+
 /// A declared type, after its name.
 fn first_type(
     alloc: Global,
@@ -136,12 +156,12 @@ fn first_type(
 ) -> Result<(Top, &[Symbol]), Stop>
     ensures { Gives (λ x. (x.0, x.1.now)) result (type_first left name tokens.now) }
 {
-    if let Ok(rest) = past(Kind::Assign, tokens) {
-        let ((ty, _), rest) = type_expr(alloc, rest, left)?;
-        return Ok((Top::Alias(TypeSpec { name, ty }), rest));
+    if opens_params(tokens) {
+        let rest = past(Kind::OpenBracket, tokens)?;
+        let (tparams, rest) = type_params(alloc, rest, left)?;
+        return declared(alloc, name, tparams, rest, left);
     }
-    let ((ty, _), rest) = type_expr(alloc, tokens, left)?;
-    Ok((Top::Defined(TypeSpec { name, ty }), rest))
+    declared(alloc, name, Items::new(alloc), tokens, left)
 }
 
 /// A specification of this kind.
@@ -186,6 +206,7 @@ fn spec_block(
     tokens: &[Symbol],
     left: usize,
 ) -> Result<(Items<Top>, &[Symbol]), Stop>
+    requires { 2 ≤ left }
     ensures { Gives (λ x. (x.0, x.1.now)) result (row is_close_paren (spec_of keyword left) tokens.now) }
 {
     let mut found = Items::new(alloc);
@@ -223,6 +244,7 @@ fn spec_group(
     tokens: &[Symbol],
     left: usize,
 ) -> Result<(Items<Top>, &[Symbol]), Stop>
+    requires { 2 ≤ left }
     ensures { Gives (λ x. (x.0, x.1.now)) result (group_at (spec_of keyword left) tokens.now) }
 {
     if let Ok(rest) = past(Kind::OpenParen, tokens) {
@@ -256,6 +278,7 @@ fn spec_decl(
     tokens: &[Symbol],
     left: usize,
 ) -> Result<(Option<Items<Top>>, &[Symbol]), Stop>
+    requires { 2 ≤ left }
     ensures { Gives (λ x. (x.0, x.1.now)) result (some_decl (group_at (spec_of keyword left)) tokens.now) }
 {
     let (specs, rest) = spec_group(alloc, keyword, tokens, left)?;
@@ -295,6 +318,7 @@ pub(crate) fn top_decl(
     tokens: &[Symbol],
     left: usize,
 ) -> Result<(Option<Items<Top>>, &[Symbol]), Stop>
+    requires { 2 ≤ left }
     ensures { Gives (λ x. (x.0, x.1.now)) result (top_decl left tokens.now) }
 {
     if let Ok(rest) = past(Kind::Var, tokens) {

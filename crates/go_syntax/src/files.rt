@@ -1,3 +1,4 @@
+ghost use Rattle.std.specs.Prelude.{◌≤◌};
 ghost use Rattle.go_syntax.specs.Reading.{Gives};
 ghost use Rattle.go_syntax.specs.Files.{imports_at, tops_at, file_front, file_at};
 
@@ -27,6 +28,7 @@ fn imports(alloc: Global, tokens: &[Symbol]) -> Result<(Items<Import>, &[Symbol]
 
 /// The declarations of a file.
 fn tops(alloc: Global, tokens: &[Symbol], left: usize) -> Result<(Items<Top>, &[Symbol]), Stop>
+    requires { 2 ≤ left }
     ensures { Gives (λ x. (x.0, x.1.now)) result (tops_at left tokens.now) }
 {
     let mut found = Items::new(alloc);
@@ -48,6 +50,7 @@ fn file_front(
     tokens: &[Symbol],
     left: usize,
 ) -> Result<(SourceFile, &[Symbol]), Stop>
+    requires { 2 ≤ left }
     ensures { Gives (λ x. (x.0, x.1.now)) result (file_front left tokens.now) }
 {
     let rest = past(Kind::Package, tokens)?;
@@ -65,6 +68,7 @@ fn file_front(
 
 /// The file that these tokens are, as the reading of lists has it.
 pub(crate) fn read_file(alloc: Global, tokens: &[Symbol], left: usize) -> Result<SourceFile, Stop>
+    requires { 2 ≤ left }
     ensures { Gives (λ f. f) result (file_at left tokens.now) }
 {
     let (file, rest) = file_front(alloc, tokens, left)?;

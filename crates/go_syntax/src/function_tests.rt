@@ -25,7 +25,7 @@ const DECLARATIONS: [(&[u8], &str); 44] = [
     (b"func (T[]) f()", "Unexpected { at: 19 }"),
     (b"func (T[A B]) f()", "Unexpected { at: 21 }"),
     (b"func (T) f[P any]()", "Unexpected { at: 21 }"),
-    (b"func f[P any]()", "Unexpected { at: 17 }"),
+    (b"func f[P any]()", "ok 0 1"),
     (b"func f", "Unexpected { at: 17 }"),
     (b"func f {", "Unexpected { at: 18 }"),
     (b"func 1()", "Unexpected { at: 16 }"),
@@ -52,7 +52,7 @@ const DECLARATIONS: [(&[u8], &str); 44] = [
 ];
 
 /// A source of one package clause and these declarations.
-fn source(alloc: Global, declarations: &[u8]) -> Result<Vec<u8>, AllocError> {
+pub(crate) fn source(alloc: Global, declarations: &[u8]) -> Result<Vec<u8>, AllocError> {
     let mut src = Vec::new(alloc);
     src.extend_from_slice(b"package p; ")?;
     src.extend_from_slice(declarations)?;
@@ -87,7 +87,7 @@ fn a_method_has_its_places(rt: HostRuntime) -> Result<(), Fail> {
         "SigExpr {{ params: {params}, results: Items {{ items: [] }}, at: 27 }}"
     )?;
     let expected = format!(in rt.alloc();
-        "[Func(FuncDecl {{ receiver: Some({receiver}), name: Ident {{ start: 26, end: 27 }}, sig: {sig} }})]"
+        "[Func(FuncDecl {{ receiver: Some({receiver}), name: Ident {{ start: 26, end: 27 }}, tparams: Items {{ items: [] }}, sig: {sig} }})]"
     )?;
     assert!(rt; found.contains(expected.as_str()));
     Ok(())

@@ -1,13 +1,14 @@
 ghost use Rattle.std.specs.Prelude.{◌≡◌};
 ghost use Rattle.go_syntax.specs.Reading.{Exactly, Gives};
-ghost use Rattle.go_syntax.specs.Functions.{idents_row, idents_at, args_at, receiver_end, receiver_base, receiver_pointer, receiver_first, receiver_at, body_at, func_name, func_at};
+ghost use Rattle.go_syntax.specs.Functions.{idents_row, idents_at, args_at, receiver_end, receiver_base, receiver_pointer, receiver_first, receiver_at, body_at, func_sig, method_name, func_name, func_at};
 
 use crate::faults::{Fault, Stop};
+use crate::generics::generic;
 use crate::params::signature;
 use crate::reading::{Kind, ident, past, single};
 use crate::skipped::skipped;
 use crate::symbols::{Ident, Symbol};
-use crate::tree::{FuncDecl, Receiver};
+use crate::tree::{FuncDecl, Receiver, TParam};
 use sqlite_items::Items;
 use std::alloc::Global;
 
@@ -145,23 +146,47 @@ fn with_body(
     Ok((func, tokens))
 }
 
-/// A function, from its name on.
-fn named_func(
+/// A function, after its name and type parameters.
+fn with_signature(
     alloc: Global,
     receiver: Option<Receiver>,
+    name: Ident,
+    tparams: Items<TParam>,
     tokens: &[Symbol],
     left: usize,
 ) -> Result<(FuncDecl, &[Symbol]), Stop>
-    ensures { Gives (λ x. (x.0, x.1.now)) result (func_name left receiver tokens.now) }
+    ensures { Gives (λ x. (x.0, x.1.now)) result (func_sig left receiver name tparams tokens.now) }
 {
-    let (name, rest) = ident(tokens)?;
-    let ((sig, _), rest) = signature(alloc, rest, left)?;
+    let ((sig, _), rest) = signature(alloc, tokens, left)?;
     let func = FuncDecl {
         receiver,
         name,
+        tparams,
         sig,
     };
     with_body(alloc, func, rest)
+}
+
+/// A method, after its receiver.
+fn named_method(
+    alloc: Global,
+    receiver: Receiver,
+    tokens: &[Symbol],
+    left: usize,
+) -> Result<(FuncDecl, &[Symbol]), Stop>
+    ensures { Gives (λ x. (x.0, x.1.now)) result (method_name left receiver tokens.now) }
+{
+    let (name, rest) = ident(tokens)?;
+    with_signature(alloc, Some(receiver), name, Items::new(alloc), rest, left)
+}
+
+/// A function without a receiver, after its keyword.
+fn named_func(alloc: Global, tokens: &[Symbol], left: usize) -> Result<(FuncDecl, &[Symbol]), Stop>
+    ensures { Gives (λ x. (x.0, x.1.now)) result (func_name left tokens.now) }
+{
+    let (name, rest) = ident(tokens)?;
+    let (tparams, rest) = generic(alloc, rest, left)?;
+    with_signature(alloc, None, name, tparams, rest, left)
 }
 
 /// A function or a method, after its keyword.
@@ -174,7 +199,7 @@ pub(crate) fn func_decl(
 {
     if let Ok(rest) = past(Kind::OpenParen, tokens) {
         let (receiver, rest) = receiver(alloc, rest)?;
-        return named_func(alloc, Some(receiver), rest, left);
+        return named_method(alloc, receiver, rest, left);
     }
-    named_func(alloc, None, tokens, left)
+    named_func(alloc, tokens, left)
 }

@@ -8,6 +8,7 @@ mod expressions;
 mod faults;
 mod files;
 mod functions;
+mod generics;
 mod names;
 mod params;
 mod parsing;
@@ -22,7 +23,7 @@ pub use parsing::{SyntaxFault, What, parse};
 pub use symbols::{Ident, Operator, Span};
 pub use tree::{
     ConstSpec, ElemExpr, Expr, FieldExpr, FuncDecl, Import, NameExpr, ParamExpr, Receiver, SigExpr,
-    SourceFile, TermExpr, Top, TypeExpr, TypeSpec, VarSpec,
+    SourceFile, TParam, TermExpr, Top, TypeExpr, TypeSpec, VarSpec,
 };
 
 #[cfg(test)]
@@ -31,5 +32,7 @@ mod constant_tests;
 mod expression_tests;
 #[cfg(test)]
 mod function_tests;
+#[cfg(test)]
+mod generic_tests;
 #[cfg(test)]
 mod tests;

@@ -74,6 +74,8 @@ pub(crate) enum Kind {
     Tilde,
     Star,
     Func,
+    /// The token that goes on with the length of an array after an identifier, or ends it.
+    LengthEnd,
     /// What shows that the identifiers before it are types of parameters, where none may be variadic.
     ListEnd,
     /// The same where the last may be.
@@ -145,6 +147,21 @@ fn shows_elem(symbol: Symbol) -> bool
     )
 }
 
+/// Whether this token goes on with the length of an array after an identifier, or ends it.
+fn shows_length(symbol: Symbol) -> bool
+    ensures { result ≡ is_of Kind.LengthEnd symbol }
+{
+    matches!(
+        symbol,
+        Symbol::CloseBracket(_)
+            | Symbol::Dot(_)
+            | Symbol::OpenParen(_)
+            | Symbol::Star(_)
+            | Symbol::Bar(_)
+            | Symbol::Operator(_, _)
+    )
+}
+
 /// Whether a token is of this kind.
 fn is_of(kind: Kind, symbol: Symbol) -> bool
     ensures { result ≡ is_of kind symbol }
@@ -176,6 +193,7 @@ fn is_of(kind: Kind, symbol: Symbol) -> bool
         Kind::Bar => matches!(symbol, Symbol::Bar(_)),
         Kind::Star => matches!(symbol, Symbol::Star(_)),
         Kind::Func => matches!(symbol, Symbol::Func(_)),
+        Kind::LengthEnd => shows_length(symbol),
         Kind::Tilde => matches!(symbol, Symbol::Tilde(_)),
         Kind::ListEnd => shows_types(false, symbol),
         Kind::ListEndOrDots => shows_types(true, symbol),

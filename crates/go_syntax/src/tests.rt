@@ -234,7 +234,7 @@ fn a_tree_has_its_places(rt: HostRuntime) -> Result<(), Fail> {
         "Items {{ items: [FieldExpr {{ names: {names}, ty: {ty}, tag: Some(Span {{ start: 37, end: 40 }}), at: 27 }}] }}"
     )?;
     let tops = format!(in rt.alloc();
-        "[Defined(TypeSpec {{ name: Ident {{ start: 16, end: 17 }}, ty: Struct {{ fields: {fields}, at: 18 }} }})]"
+        "[Defined(TypeSpec {{ name: Ident {{ start: 16, end: 17 }}, tparams: Items {{ items: [] }}, ty: Struct {{ fields: {fields}, at: 18 }} }})]"
     )?;
     let expected = format!(in rt.alloc();
         "SourceFile {{ name: Ident {{ start: 8, end: 9 }}, imports: Items {{ items: [] }}, tops: Items {{ items: {tops} }} }}"

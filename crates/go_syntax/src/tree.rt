@@ -174,10 +174,19 @@ pub struct ConstSpec {
     pub source: usize,
 }
 
+/// Type parameters that share a constraint. They begin at `at`.
+#[derive(Debug, Drop)]
+pub struct TParam {
+    pub names: Items<Ident>,
+    pub constraint: TypeExpr,
+    pub at: u32,
+}
+
 /// A declared type.
 #[derive(Debug, Drop)]
 pub struct TypeSpec {
     pub name: Ident,
+    pub tparams: Items<TParam>,
     pub ty: TypeExpr,
 }
 
@@ -195,6 +204,7 @@ pub struct Receiver {
 pub struct FuncDecl {
     pub receiver: Option<Receiver>,
     pub name: Ident,
+    pub tparams: Items<TParam>,
     pub sig: SigExpr,
 }
 

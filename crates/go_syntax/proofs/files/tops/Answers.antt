@@ -6,15 +6,15 @@ use Rattle.go_syntax.proofs.files.tops.Goals as goal
 pub returns-in_err-decl : goal.returns-in_err-decl
 returns-in_err-decl c =
     let p = err_from_is_err_and c.from_residual.result c.from_residual.ensures.1 in
-    rw (p.1, p.2) (step_stops (top_decl c.args.left) (top_step c.args.left) (top_steps c.args.left) c.loop-found.found c.loop-found.rest.now c.in_err-decl.field-0.0 (tops_at c.args.left c.args.tokens.now) c.in_err-decl.ensures c.loop-found.invariant)
+    rw (p.1, p.2) (step_stops (top_decl c.args.left) (top_step c.args.left) (top_steps c.args.left c.requires) c.loop-found.found c.loop-found.rest.now c.in_err-decl.field-0.0 (tops_at c.args.left c.args.tokens.now) c.in_err-decl.ensures c.loop-found.invariant)
 
 pub returns-in_default : goal.returns-in_default
 returns-in_default c =
-    done_at (top_decl c.args.left) (top_step c.args.left) (top_steps c.args.left) c.loop-found.found c.loop-found.rest.now c.in_ok-decl.decl c.in_ok-decl.after.now (tops_at c.args.left c.args.tokens.now) c.in_ok-decl.ensures c.in_default.is c.loop-found.invariant
+    done_at (top_decl c.args.left) (top_step c.args.left) (top_steps c.args.left c.requires) c.loop-found.found c.loop-found.rest.now c.in_ok-decl.decl c.in_ok-decl.after.now (tops_at c.args.left c.args.tokens.now) c.in_ok-decl.ensures c.in_default.is c.loop-found.invariant
 
 pub loop-found-smaller : goal.loop-found-smaller
-loop-found-smaller c = smaller_at (top_decl c.args.left) (top_step c.args.left) (top_steps c.args.left) c.loop-found.rest.now c.in_ok-decl.decl c.in-Some.more c.in_ok-decl.after.now c.in_ok-decl.ensures c.in-Some.is
+loop-found-smaller c = smaller_at (top_decl c.args.left) (top_step c.args.left) (top_steps c.args.left c.requires) c.loop-found.rest.now c.in_ok-decl.decl c.in-Some.more c.in_ok-decl.after.now c.in_ok-decl.ensures c.in-Some.is
 
 pub loop-found-preserved : goal.loop-found-preserved
 loop-found-preserved c =
-    rw c.in_ok-append.ensures (goes_at (top_decl c.args.left) (top_step c.args.left) (top_steps c.args.left) c.loop-found.found c.loop-found.rest.now c.in_ok-decl.decl c.in-Some.more c.in_ok-decl.after.now (tops_at c.args.left c.args.tokens.now) c.in_ok-decl.ensures c.in-Some.is c.loop-found.invariant)
+    rw c.in_ok-append.ensures (goes_at (top_decl c.args.left) (top_step c.args.left) (top_steps c.args.left c.requires) c.loop-found.found c.loop-found.rest.now c.in_ok-decl.decl c.in-Some.more c.in_ok-decl.after.now (tops_at c.args.left c.args.tokens.now) c.in_ok-decl.ensures c.in-Some.is c.loop-found.invariant)
