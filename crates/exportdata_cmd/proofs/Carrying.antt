@@ -1,5 +1,5 @@
 -- What putting the lines that the words ask for carries out.
-use Rattle.std.proofs.Common.{◌≡◌, ℕ, List, take, Option, Ok, Err, inl, inr, refl}
+use Rattle.std.proofs.Common.{ℕ, List, take, Option, Ok, Err, inr, refl}
 use Rattle.outside.specs.Files.{Held}
 use Rattle.command_words.specs.Texts.{Word, Source}
 use Rattle.command_words.specs.Forms.{list, IsForm}

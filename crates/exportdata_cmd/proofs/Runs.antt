@@ -19,7 +19,7 @@ use Rattle.exportdata_cmd.specs.Printed.{Line, line}
 use Rattle.exportdata_cmd.specs.ErrorLines.{line_of, status_of, missing_text, damaged_text, no_memory_text}
 use Rattle.exportdata_cmd.specs.Putting.{SinkState, WroteSome, Reports}
 use Rattle.exportdata_cmd.specs.Showing.{Answer, unknown, damaged, declared, shown_status}
-use Rattle.exportdata_cmd.specs.Ending.{HasBody, IsTooLong, file_limit, Shows, Prints, source_asked, Ends, EndsWith, IsCutShort, CanList, CanShow, IsMissing, IsDamaged, IsLong, IsCrowded}
+use Rattle.exportdata_cmd.specs.Ending.{HasBody, IsTooLong, file_limit, Shows, Prints, source_asked, Ends, EndsWith, IsCutShort, CanList, CanShow, IsMissing, IsDamaged, IsLong}
 use Rattle.exportdata_cmd.specs.Carried.{Printed, Broken, Owes}
 use Rattle.exportdata_cmd.proofs.Puts.{wrote_nothing}
 use Rattle.exportdata_cmd.specs.declared.exits.Status.{Status}

@@ -1,5 +1,5 @@
 -- The lines of what the names are that were looked up are those that the words ask for.
-use Rattle.std.proofs.Common.{◌≡◌, ◌↔◌, ℕ, zero, suc, ◌<◌, List, [], ◌∷◌, ◌++◌, length, Option, Some, Result, Ok, Err, inr, refl, sym, ◌∙◌, subst, arith}
+use Rattle.std.proofs.Common.{◌≡◌, ◌↔◌, ℕ, zero, suc, ◌<◌, List, [], ◌∷◌, ◌++◌, length, Option, Some, Ok, Err, inr, refl, subst, arith}
 use Rattle.std.specs.Prelude.{get_or}
 use Rattle.std.specs.List.{AllByRecursion, Contains}
 use Rattle.std.specs.List.Sorted.{IsStrictlySortedBy}
@@ -14,11 +14,10 @@ use Rattle.name_index.specs.Envelope.{Envelope}
 use Rattle.session.specs.Answers.{Outcome, Gives}
 use Rattle.session.specs.Asked.{read_for, declared_numbers}
 use Rattle.session.proofs.Outcomes.{one_outcome}
-use Rattle.exportdata_cmd.specs.Printed.{Line}
 use Rattle.exportdata_cmd.specs.Causes.{HasBytes}
-use Rattle.exportdata_cmd.specs.Showing.{Answer, answer_texts, decoded_line, IsDecoded, AreDecoded, shown_status}
+use Rattle.exportdata_cmd.specs.Showing.{answer_texts, decoded_line, AreDecoded, shown_status}
 use Rattle.exportdata_cmd.specs.LookedUp.{answered, IsLookedUp, AreLookedUp, OnlyRead}
-use Rattle.exportdata_cmd.specs.Ending.{Shows, Prints}
+use Rattle.exportdata_cmd.specs.Ending.{Prints}
 use Rattle.exportdata_cmd.specs.declared.showing.LookedUp.{LookedUp}
 use Rattle.exportdata_cmd.specs.declared.showing.LookedUp.TheVariants.{Unknown, Damaged, Declared}
 use Rattle.exportdata_cmd.proofs.Shown.{right, for_names}

@@ -1,5 +1,5 @@
 -- What looking up the names that are asked for leaves.
-use Rattle.std.specs.Prelude.{◌≡◌, ℕ, List, [], ◌∷◌, map, Result, Ok, Err, Option, Some, None}
+use Rattle.std.specs.Prelude.{◌≡◌, ℕ, List, [], ◌∷◌, Ok, Err, Option, Some, None}
 use Rattle.std.specs.List.{Contains}
 use Rattle.type_terms.specs.Declarations.{Decl}
 use Rattle.command_words.specs.Texts.{Name}

@@ -178,15 +178,24 @@ fn sink(alloc: Global, failing: &[(u64, u64)]) -> Result<MemorySink, AllocError>
     Ok(sink)
 }
 
-// Runs `list f:p=p.x` on one file.
-fn listed<R: Threads + Sync>(rt: &R, alloc: Global, bytes: &[u8]) -> Result<Outcome, AllocError> {
+// Runs a command on one file.
+fn ran_on<R: Threads + Sync>(
+    rt: &R,
+    alloc: Global,
+    line: &str,
+    bytes: &[u8],
+) -> Result<Outcome, AllocError> {
     let given = Given {
         files: &[("p.x", bytes)],
         failing_calls: &[],
         failing_puts: &[],
     };
-    ran(rt, alloc, "list f:p=p.x", &given)
+    ran(rt, alloc, line, &given)
 }
+
+const LIST: &str = "list f:p=p.x";
+
+const SHOW: &str = "show f:p=p.x -- p:A";
 
 #[test]
 fn files_that_are_listed(rt: HostRuntime) -> Result<(), Fail> {
@@ -196,7 +205,7 @@ fn files_that_are_listed(rt: HostRuntime) -> Result<(), Fail> {
         (&OWN_ELEMENT, b"package p p\n  A 2\n"),
     ];
     for (bytes, lines) in files {
-        let ran = listed(&rt, rt.alloc(), bytes)?;
+        let ran = ran_on(&rt, rt.alloc(), LIST, bytes)?;
         assert!(rt; ran.status == Status::Done);
         assert_eq!(rt; ran.out.as_slice(), lines);
         assert_eq!(rt; ran.err.as_slice(), b"".as_slice());
@@ -208,11 +217,13 @@ fn files_that_are_listed(rt: HostRuntime) -> Result<(), Fail> {
 fn files_that_are_refused(rt: HostRuntime) -> Result<(), Fail> {
     let alloc = rt.alloc();
     for len in 0..ONE_CONSTANT.len() {
-        let ran = listed(&rt, rt.alloc(), &ONE_CONSTANT[..len])?;
         let line = format!(in alloc; "f:p=p.x: ended at {len}\n")?;
-        assert!(rt; ran.status == Status::Refused, "{len}");
-        assert_eq!(rt; ran.err.as_slice(), line.as_bytes());
-        assert!(rt; ran.out.is_empty());
+        for words in [LIST, SHOW] {
+            let ran = ran_on(&rt, rt.alloc(), words, &ONE_CONSTANT[..len])?;
+            assert!(rt; ran.status == Status::Refused, "{len}");
+            assert_eq!(rt; ran.err.as_slice(), line.as_bytes());
+            assert!(rt; ran.out.is_empty());
+        }
     }
     let mut longer = Vec::from_slice(alloc, &ONE_CONSTANT)?;
     longer.push(0)?;
@@ -230,10 +241,12 @@ fn files_that_are_refused(rt: HostRuntime) -> Result<(), Fail> {
         (long_number.as_slice(), b"f:p=p.x: number at 7\n"),
     ];
     for (bytes, line) in files {
-        let ran = listed(&rt, rt.alloc(), bytes)?;
-        assert!(rt; ran.status == Status::Refused);
-        assert_eq!(rt; ran.err.as_slice(), line);
-        assert!(rt; ran.out.is_empty());
+        for words in [LIST, SHOW] {
+            let ran = ran_on(&rt, rt.alloc(), words, bytes)?;
+            assert!(rt; ran.status == Status::Refused);
+            assert_eq!(rt; ran.err.as_slice(), line);
+            assert!(rt; ran.out.is_empty());
+        }
     }
     Ok(())
 }
@@ -342,9 +355,15 @@ fn words_files_and_faults(rt: HostRuntime) -> Result<(), Fail> {
         failing_calls: &[],
         failing_puts: &[],
     };
-    let lines: [(&str, Status, &[u8]); 4] = [
+    let lines: [(&str, Status, &[u8]); 6] = [
         ("", Status::Words, b"word 1 is wrong\n"),
         ("list", Status::Words, b"word 2 is wrong\n"),
+        ("show f:p=p.x -- p", Status::Words, b"word 4 is wrong\n"),
+        (
+            "show f:p=none.x -- p:A",
+            Status::Refused,
+            b"missing none.x\n",
+        ),
         ("list f:p=none.x", Status::Refused, b"missing none.x\n"),
         ("list f:p=\"\\", Status::Refused, b"missing \\x22\\x5c\n"),
     ];
@@ -375,7 +394,7 @@ fn words_files_and_faults(rt: HostRuntime) -> Result<(), Fail> {
 #[test]
 fn a_file_over_the_limit(rt: HostRuntime) -> Result<(), Fail> {
     let long = vec![in rt.alloc(); 0u8; 16_777_217]?;
-    let ran = listed(&rt, rt.alloc(), long.as_slice())?;
+    let ran = ran_on(&rt, rt.alloc(), LIST, long.as_slice())?;
     assert!(rt; ran.status == Status::Limit);
     assert_eq!(rt; ran.err.as_slice(), b"limit bytes\n".as_slice());
     assert!(rt; ran.out.is_empty());

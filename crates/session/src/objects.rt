@@ -60,6 +60,7 @@ impl<'a> Objects<'a> {
         requires { limit ≤ 2 ^ 28 }
         ensures file { result.file ≡ session.entry.image.now }
         ensures empty { read_by result ≡ [] }
+        ensures limit { result.limit ≡ limit }
     {
         Objects {
             session,
@@ -80,6 +81,7 @@ impl<'a> Objects<'a> {
         ensures stays { (number : ℕ) (outcome : Outcome) → read_for (read_by self.old) number ≡ Some outcome → read_for (read_by self.new) number ≡ Some outcome }
         ensures only { (number : ℕ) (outcome : Outcome) → read_for (read_by self.new) number ≡ Some outcome → (read_for (read_by self.old) number ≡ Some outcome) ⊎ (result ≡ Ok (Some number)) }
         ensures file { self.new.file ≡ self.old.file }
+        ensures limit { self.new.limit ≡ self.old.limit }
         ensures full { IsErrOf result LookUpFault.Nodes → length self.new.nodes ≡ self.new.limit }
     {
         let Some(number) = self.session.image.entry_of(path, name) else {

@@ -1,6 +1,5 @@
-use Rattle.std.proofs.Common.{◌≡◌, ℕ, List, length, sym, ◌∙◌, ap, subst}
-use Rattle.command_words.specs.Forms.{show, IsForm, source_of, names_of}
-use Rattle.command_words.specs.Texts.{Word}
+use Rattle.std.proofs.Common.{length, ◌∙◌, ap}
+use Rattle.command_words.specs.Forms.{show, source_of, names_of}
 use Rattle.session.specs.Asked.{read_by}
 use Rattle.exportdata_cmd.specs.Showing.{shown_status}
 use Rattle.exportdata_cmd.specs.LookedUp.{answered}

@@ -1,9 +1,9 @@
-use Rattle.std.proofs.Common.{◌≡◌, ◌≤◌, ℕ, List, length, sym, ◌∙◌, arith, add-one, subst, take}
+use Rattle.std.proofs.Common.{◌≤◌, List, length, sym, ◌∙◌, arith, add-one, subst}
 use Rattle.std.proofs.lemmas.List.{take_all}
 use Rattle.command_words.specs.Texts.{Name}
 use Rattle.command_words.specs.Forms.{name_of, names_of}
 use Rattle.session.specs.Asked.{read_by}
-use Rattle.exportdata_cmd.specs.LookedUp.{AreLookedUp, OnlyRead}
+use Rattle.exportdata_cmd.specs.LookedUp.{OnlyRead}
 use Rattle.exportdata_cmd.proofs.Shown.{where_no_error, looks_on, reads_on}
 use Rattle.exportdata_cmd.proofs.showing.look_up_names.Goals as goal
 

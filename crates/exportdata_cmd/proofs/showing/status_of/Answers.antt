@@ -1,4 +1,4 @@
-use Rattle.std.proofs.Common.{◌≡◌, ℕ, List, [], ◌∙◌, sym, ap, Some, arith, length, add-one}
+use Rattle.std.proofs.Common.{◌∙◌, sym, ap, Some, arith, add-one}
 use Rattle.std.proofs.lemmas.Option.{slice_get-get_or}
 use Rattle.exportdata_cmd.specs.declared.showing.LookedUp.{LookedUp}
 use Rattle.exportdata_cmd.proofs.Shown.{goes_on_at, refused_at, nothing_left}
