@@ -178,24 +178,15 @@ fn sink(alloc: Global, failing: &[(u64, u64)]) -> Result<MemorySink, AllocError>
     Ok(sink)
 }
 
-// Runs a command on one file.
-fn ran_on<R: Threads + Sync>(
-    rt: &R,
-    alloc: Global,
-    line: &str,
-    bytes: &[u8],
-) -> Result<Outcome, AllocError> {
+// Runs `list f:p=p.x` on one file.
+fn listed<R: Threads + Sync>(rt: &R, alloc: Global, bytes: &[u8]) -> Result<Outcome, AllocError> {
     let given = Given {
         files: &[("p.x", bytes)],
         failing_calls: &[],
         failing_puts: &[],
     };
-    ran(rt, alloc, line, &given)
+    ran(rt, alloc, "list f:p=p.x", &given)
 }
-
-const LIST: &str = "list f:p=p.x";
-
-const SHOW: &str = "show f:p=p.x -- p:A";
 
 #[test]
 fn files_that_are_listed(rt: HostRuntime) -> Result<(), Fail> {
@@ -205,7 +196,7 @@ fn files_that_are_listed(rt: HostRuntime) -> Result<(), Fail> {
         (&OWN_ELEMENT, b"package p p\n  A 2\n"),
     ];
     for (bytes, lines) in files {
-        let ran = ran_on(&rt, rt.alloc(), LIST, bytes)?;
+        let ran = listed(&rt, rt.alloc(), bytes)?;
         assert!(rt; ran.status == Status::Done);
         assert_eq!(rt; ran.out.as_slice(), lines);
         assert_eq!(rt; ran.err.as_slice(), b"".as_slice());
@@ -213,17 +204,36 @@ fn files_that_are_listed(rt: HostRuntime) -> Result<(), Fail> {
     Ok(())
 }
 
+// Whether both commands refuse a file with this line.
+fn refused<R: Threads + Sync>(
+    rt: &R,
+    alloc: Global,
+    bytes: &[u8],
+    line: &[u8],
+) -> Result<bool, AllocError> {
+    let given = Given {
+        files: &[("p.x", bytes)],
+        failing_calls: &[],
+        failing_puts: &[],
+    };
+    for words in ["list f:p=p.x", "show f:p=p.x -- p:A"] {
+        let ran = ran(rt, alloc, words, &given)?;
+        if ran.status != Status::Refused || ran.err.as_slice() != line || !ran.out.is_empty() {
+            return Ok(false);
+        }
+    }
+    Ok(true)
+}
+
 #[test]
 fn files_that_are_refused(rt: HostRuntime) -> Result<(), Fail> {
     let alloc = rt.alloc();
     for len in 0..ONE_CONSTANT.len() {
         let line = format!(in alloc; "f:p=p.x: ended at {len}\n")?;
-        for words in [LIST, SHOW] {
-            let ran = ran_on(&rt, rt.alloc(), words, &ONE_CONSTANT[..len])?;
-            assert!(rt; ran.status == Status::Refused, "{len}");
-            assert_eq!(rt; ran.err.as_slice(), line.as_bytes());
-            assert!(rt; ran.out.is_empty());
-        }
+        assert!(rt;
+            refused(&rt, rt.alloc(), &ONE_CONSTANT[..len], line.as_bytes())?,
+            "{len}"
+        );
     }
     let mut longer = Vec::from_slice(alloc, &ONE_CONSTANT)?;
     longer.push(0)?;
@@ -241,12 +251,7 @@ fn files_that_are_refused(rt: HostRuntime) -> Result<(), Fail> {
         (long_number.as_slice(), b"f:p=p.x: number at 7\n"),
     ];
     for (bytes, line) in files {
-        for words in [LIST, SHOW] {
-            let ran = ran_on(&rt, rt.alloc(), words, bytes)?;
-            assert!(rt; ran.status == Status::Refused);
-            assert_eq!(rt; ran.err.as_slice(), line);
-            assert!(rt; ran.out.is_empty());
-        }
+        assert!(rt; refused(&rt, rt.alloc(), bytes, line)?);
     }
     Ok(())
 }
@@ -355,16 +360,18 @@ fn words_files_and_faults(rt: HostRuntime) -> Result<(), Fail> {
         failing_calls: &[],
         failing_puts: &[],
     };
-    let lines: [(&str, Status, &[u8]); 6] = [
+    let lines: [(&str, Status, &[u8]); 8] = [
         ("", Status::Words, b"word 1 is wrong\n"),
         ("list", Status::Words, b"word 2 is wrong\n"),
-        ("show f:p=p.x -- p", Status::Words, b"word 4 is wrong\n"),
+        ("show f:p=p.x", Status::Words, b"word 3 is wrong\n"),
+        ("show f:p=p.x p:A", Status::Words, b"word 3 is wrong\n"),
+        ("show f:p=p.x -- p:A A", Status::Words, b"word 5 is wrong\n"),
+        ("list f:p=none.x", Status::Refused, b"missing none.x\n"),
         (
             "show f:p=none.x -- p:A",
             Status::Refused,
             b"missing none.x\n",
         ),
-        ("list f:p=none.x", Status::Refused, b"missing none.x\n"),
         ("list f:p=\"\\", Status::Refused, b"missing \\x22\\x5c\n"),
     ];
     for (words, status, line) in lines {
@@ -384,17 +391,26 @@ fn words_files_and_faults(rt: HostRuntime) -> Result<(), Fail> {
         failing_puts: &[(1, 3)],
         ..one
     };
-    let broken = ran(&rt, rt.alloc(), "list f:p=p.x", &broken)?;
-    assert!(rt; broken.status == Status::Output);
-    assert_eq!(rt; broken.out.as_slice(), b"package p p\n  A".as_slice());
-    assert!(rt; broken.err.is_empty());
+    let parts: [(&str, &[u8]); 2] = [
+        ("list f:p=p.x", b"package p p\n  A"),
+        (
+            "show f:p=p.x -- p:A",
+            b"p:A p.go:2:7 const untyped int = 1\ndec",
+        ),
+    ];
+    for (words, part) in parts {
+        let broken = ran(&rt, rt.alloc(), words, &broken)?;
+        assert!(rt; broken.status == Status::Output);
+        assert_eq!(rt; broken.out.as_slice(), part);
+        assert!(rt; broken.err.is_empty());
+    }
     Ok(())
 }
 
 #[test]
 fn a_file_over_the_limit(rt: HostRuntime) -> Result<(), Fail> {
     let long = vec![in rt.alloc(); 0u8; 16_777_217]?;
-    let ran = ran_on(&rt, rt.alloc(), LIST, long.as_slice())?;
+    let ran = listed(&rt, rt.alloc(), long.as_slice())?;
     assert!(rt; ran.status == Status::Limit);
     assert_eq!(rt; ran.err.as_slice(), b"limit bytes\n".as_slice());
     assert!(rt; ran.out.is_empty());
