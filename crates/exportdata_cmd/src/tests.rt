@@ -3,6 +3,7 @@ use outside::{MemoryFiles, MemorySink, OpenGate};
 use std::alloc::{AllocError, Global};
 use std::test::Fail;
 use std::thread::Threads;
+use wire_bytes::Writer;
 
 // The file of `package p` with the constant A.
 const ONE_CONSTANT: [u8; 28] = [
@@ -60,7 +61,7 @@ const GENERIC_ALIAS: [u8; 62] = [
     0x00, 0x00, 0x1f, 0x01, 0x09, 0x0c, 0x00, 0x03, 0x0a, 0x05, 0x05, 0x19, 0x0e, 0x14,
 ];
 
-// A file with each kind of declaration and each kind of type.
+// A file with each kind of declaration and each kind of type. bench/worked_files.py makes it.
 const EVERY_KIND: [u8; 349] = [
     0x69, 0x02, 0x44, 0xf2, 0x01, 0x04, 0x70, 0x2e, 0x67, 0x6f, 0x01, 0x57, 0x01, 0x71, 0x03, 0x42,
     0x2e, 0x50, 0x00, 0x03, 0x61, 0x20, 0x22, 0x01, 0x78, 0x03, 0x47, 0x2e, 0x51, 0x01, 0x66, 0x01,
@@ -120,6 +121,13 @@ p:V p.go:11:5 var #5
 decoded 11 of 11
 ";
 
+// Two aliases of each other, and a constant whose type is one of them.
+const RING_OF_ALIASES: [u8; 41] = [
+    0x69, 0x02, 0x09, 0x11, 0x00, 0x01, 0x70, 0x01, 0x41, 0x01, 0x42, 0x01, 0x43, 0x0c, 0x03, 0x00,
+    0x0c, 0x05, 0x00, 0x41, 0x00, 0x23, 0x41, 0x00, 0x20, 0x43, 0x00, 0x20, 0x06, 0x02, 0x01, 0x00,
+    0x01, 0x00, 0x03, 0x03, 0x06, 0x05, 0x09, 0x07, 0x0c,
+];
+
 // What a run is given besides its words.
 #[derive(Clone, Copy)]
 struct Given<'a> {
@@ -174,7 +182,7 @@ fn ran<R: Threads + Sync>(
 
 fn sink(alloc: Global, failing: &[(u64, u64)]) -> Result<MemorySink, AllocError> {
     let mut sink = MemorySink::new(alloc, Vec::from_slice(alloc, failing)?)?;
-    sink.reserve(4096)?;
+    sink.reserve(16384)?;
     Ok(sink)
 }
 
@@ -262,7 +270,7 @@ fn names_that_are_shown(rt: HostRuntime) -> Result<(), Fail> {
     old_type[14] = 0x55;
     let mut old_any = OLD_CONSTANT;
     old_any[18] = 0x1f;
-    let rows: [(&[u8], &str, Status, &[u8]); 14] = [
+    let rows: [(&[u8], &str, Status, &[u8]); 15] = [
         (
             &ONE_CONSTANT,
             "p:A",
@@ -314,6 +322,12 @@ fn names_that_are_shown(rt: HostRuntime) -> Result<(), Fail> {
             b"p:A - var p.T\ndecoded 1 of 1\n",
         ),
         (
+            &RING_OF_ALIASES,
+            "p:C p:A",
+            Status::Refused,
+            b"p:C damaged notconst at 27\np:A - alias p.B\ndecoded 1 of 3\n",
+        ),
+        (
             &GENERIC_ALIAS,
             "p:V p:L",
             Status::Done,
@@ -350,6 +364,60 @@ fn names_that_are_shown(rt: HostRuntime) -> Result<(), Fail> {
         assert_eq!(rt; ran.out.as_slice(), text, "{names}");
         assert!(rt; ran.err.is_empty(), "{names}");
     }
+    Ok(())
+}
+
+// A file of 200 structs above an empty one, each with two fields of the one before it, and what `show` prints of the last.
+fn shared_structs(alloc: Global) -> Result<(Vec<u8>, Vec<u8>), AllocError> {
+    let mut data = Writer::new(alloc);
+    put_all(&mut data, &[7, 0, 0])?;
+    let mut text = Vec::from_slice(alloc, b"p:A - var #200\n  #0 struct p {}\n")?;
+    let mut before = 0u64;
+    for k in 1u64..201 {
+        let at = data.bytes().len() as u64;
+        put_all(&mut data, &[7, 0, 2])?;
+        for name in [5, 7] {
+            put_all(&mut data, &[0, name])?;
+            data.put_uvarint(before.saturating_add(32))?;
+            put_all(&mut data, &[0, 0])?;
+        }
+        before = at;
+        let less = k - 1;
+        let line = format!(in alloc; "  #{k} struct p {{a #{less}; b #{less}}}\n")?;
+        text.extend_from_slice(line.as_bytes())?;
+    }
+    let offset = data.bytes().len() as u64;
+    put_all(&mut data, &[b'V', 0])?;
+    data.put_uvarint(before.saturating_add(32))?;
+    text.extend_from_slice(b"decoded 1 of 1\n")?;
+    let mut file = Writer::new(alloc);
+    put_all(&mut file, &[0x69, 2, 9])?;
+    file.put_uvarint(data.bytes().len() as u64)?;
+    put_all(&mut file, b"\x00\x01p\x01A\x01a\x01b")?;
+    put_all(&mut file, data.bytes())?;
+    put_all(&mut file, &[1, 0, 1, 0, 1, 3])?;
+    file.put_uvarint(offset)?;
+    Ok((Vec::from_slice(alloc, file.bytes())?, text))
+}
+
+fn put_all(writer: &mut Writer, bytes: &[u8]) -> Result<(), AllocError> {
+    for byte in bytes {
+        writer.put_byte(*byte)?;
+    }
+    Ok(())
+}
+
+#[test]
+fn shared_structs_have_a_line_each(rt: HostRuntime) -> Result<(), Fail> {
+    let (bytes, text) = shared_structs(rt.alloc())?;
+    let given = Given {
+        files: &[("p.x", bytes.as_slice())],
+        failing_calls: &[],
+        failing_puts: &[],
+    };
+    let ran = ran(&rt, rt.alloc(), "show f:p=p.x -- p:A", &given)?;
+    assert!(rt; ran.status == Status::Done);
+    assert!(rt; ran.out.as_slice() == text.as_slice());
     Ok(())
 }
 
