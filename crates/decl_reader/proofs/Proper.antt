@@ -131,7 +131,7 @@ may_underlie_type (named q) given = absurd cc
 may_underlie_type (parameter q) given = absurd cc
 may_underlie_type (alias q) given = absurd cc
 may_underlie_type (instance base args) given = absurd cc
-may_underlie_type (union terms) given = absurd cc
+may_underlie_type (union members) given = absurd cc
 may_underlie_type _ given = tt
 
 not_any : (basic : Basic) → has_methods (predeclared basic) ≡ true → basic_code basic ≡ 31 → ⊥

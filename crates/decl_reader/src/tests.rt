@@ -1,4 +1,6 @@
 //! Heads and declarations of known bytes.
 
+mod chains;
 mod declarations;
 mod heads;
+mod replaced;

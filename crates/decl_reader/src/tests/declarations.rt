@@ -66,7 +66,7 @@ const RING_PARTS: Parts<'static> = Parts {
 };
 
 /// Each name comes down to int.
-struct Ints;
+pub(super) struct Ints;
 
 impl Basics for Ints {
     ghost use Rattle.std.specs.Prelude.{Some};
@@ -80,10 +80,11 @@ impl Basics for Ints {
 }
 
 /// What is read at an offset, if it lies in the data section.
-fn read_at(
+pub(super) fn read_at<B: Basics>(
     alloc: Global,
     parts: &Parts<'_>,
     offset: u64,
+    basics: &B,
     arena: &mut Arena,
 ) -> Option<Result<DeclNode, ReadFault>>
     requires { IsOfFile parts.now }
@@ -91,13 +92,14 @@ fn read_at(
     if offset >= parts.body_len {
         return None;
     }
-    Some(read_counted::<Brand>(alloc, parts, offset, arena, Blank::new(1)))
+    Some(read_counted::<B, Brand>(alloc, parts, offset, basics, arena, Blank::new(1)))
 }
 
-fn read_counted<L: Ledger>(
+fn read_counted<B: Basics, L: Ledger>(
     alloc: Global,
     parts: &Parts<'_>,
     offset: u64,
+    basics: &B,
     arena: &mut Arena,
     blank: Blank,
 ) -> Result<DeclNode, ReadFault>
@@ -108,14 +110,14 @@ fn read_counted<L: Ledger>(
     requires some { 0 < blank.parts }
 {
     let mut steps = Steps::<L>::start(blank);
-    read_decl(alloc, parts, offset, &Ints, arena, &mut steps)
+    read_decl(alloc, parts, offset, basics, arena, &mut steps)
 }
 
 fn fault_at(alloc: Global, parts: &Parts<'_>, offset: u64) -> Option<ByteFault>
     requires { IsOfFile parts.now }
 {
     let mut arena = Arena::new(alloc, 100);
-    match read_at(alloc, parts, offset, &mut arena)? {
+    match read_at(alloc, parts, offset, &Ints, &mut arena)? {
         Err(ReadFault::Bytes(fault)) => Some(fault),
         _ => None,
     }
@@ -156,13 +158,13 @@ fn outline_at(alloc: Global, parts: &Parts<'_>, offset: u64) -> Option<(Outline,
     requires { IsOfFile parts.now }
 {
     let mut arena = Arena::new(alloc, 100);
-    let found = read_at(alloc, parts, offset, &mut arena)?;
+    let found = read_at(alloc, parts, offset, &Ints, &mut arena)?;
     Some((outline_of(found.ok()?), arena.len()))
 }
 
 /// What stands in a declaration besides its types.
 #[derive(Clone, Copy, Debug, PartialEq, Eq)]
-enum Outline {
+pub(super) enum Outline {
     Var {
         at: (u32, u32),
         ty: u32,
@@ -183,7 +185,7 @@ enum Outline {
     },
 }
 
-fn outline_of(found: DeclNode) -> Outline {
+pub(super) fn outline_of(found: DeclNode) -> Outline {
     match found {
         DeclNode::Var { pos, ty } => Outline::Var {
             at: line_of(pos),
