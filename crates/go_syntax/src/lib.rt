@@ -36,3 +36,5 @@ mod function_tests;
 mod generic_tests;
 #[cfg(test)]
 mod tests;
+#[cfg(test)]
+mod type_tests;
