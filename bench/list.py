@@ -8,22 +8,14 @@ usage: bench/list.py [PROGRAM]
 """
 import os
 import statistics
-import subprocess
 import sys
 import tempfile
-import time
+
+from spelling import uvarint
+from timing import timed
 
 NAMES = 480_000
 RUNS = 11
-
-
-def uvarint(n):
-    out = bytearray()
-    while n >= 128:
-        out.append(n & 127 | 128)
-        n >>= 7
-    out.append(n)
-    return bytes(out)
 
 
 def full_file():
@@ -38,18 +30,6 @@ def full_file():
     head = b"i" + uvarint(2) + uvarint(len(strings)) + uvarint(len(body))
     index = uvarint(1) + uvarint(0) + uvarint(1) + uvarint(0) + uvarint(NAMES) + bytes(entries)
     return head + bytes(strings) + body + index
-
-
-def seconds(command, target):
-    """How long a command took, on the clock and of a processor."""
-    with open(target, "wb") as out:
-        start = time.perf_counter()
-        child = subprocess.Popen(command, stdout=out)
-        _, status, used = os.wait4(child.pid, 0)
-        child.returncode = os.waitstatus_to_exitcode(status)
-        took = time.perf_counter() - start
-    assert child.returncode == 0, command
-    return took, used.ru_utime + used.ru_stime
 
 
 def show(what, ours, theirs):
@@ -70,10 +50,10 @@ def main():
         printed = os.path.join(folder, "printed")
         copied = os.path.join(folder, "copied")
         command = [program, "list", "f:p=" + path]
-        seconds(command, printed)
+        timed(command, printed)
         with open(printed, "rb") as file:
             assert file.read().count(b"\n") == NAMES + 1
-        rows = [(seconds(command, printed), seconds(["cat", printed], copied)) for _ in range(RUNS)]
+        rows = [(timed(command, printed), timed(["cat", printed], copied)) for _ in range(RUNS)]
         print(f"{size} bytes, {NAMES} names, {os.path.getsize(printed)} bytes printed, {RUNS} runs")
         for k, what in enumerate(["on the clock", "of a processor"]):
             show(what, [ours[k] for ours, _ in rows], [theirs[k] for _, theirs in rows])

@@ -9,27 +9,15 @@ usage: bench/show.py [PROGRAM [GROUPS]]
 """
 import os
 import statistics
-import subprocess
 import sys
 import tempfile
-import time
+
+from spelling import uvarint, varint
+from timing import timed
 
 GROUPS = 10_000
 RUNS = 7
 INT, STRING, BYTE, ERROR = 1, 16, 17, 19
-
-
-def uvarint(n):
-    out = bytearray()
-    while n >= 128:
-        out.append(n & 127 | 128)
-        n >>= 7
-    out.append(n)
-    return bytes(out)
-
-
-def varint(n):
-    return uvarint(2 * n if n >= 0 else -2 * n - 1)
 
 
 class File:
@@ -104,18 +92,6 @@ def group(file, i):
     file.declare(b"Root%05d" % i, lambda: b"V" + file.pos(line + 9, 5) + uvarint(pointer))
 
 
-def run(command, target):
-    """How long a command took on the clock, and the most memory that it held, in bytes."""
-    with open(target, "wb") as out:
-        start = time.perf_counter()
-        child = subprocess.Popen(command, stdout=out)
-        _, status, used = os.wait4(child.pid, 0)
-        child.returncode = os.waitstatus_to_exitcode(status)
-        took = time.perf_counter() - start
-    assert child.returncode == 0, command[:3]
-    return took, used.ru_maxrss * 1024
-
-
 def main():
     here = os.path.dirname(os.path.abspath(__file__))
     program = os.path.abspath(sys.argv[1] if len(sys.argv) > 1 else os.path.join(here, "../crates/exportdata/out/exportdata"))
@@ -130,15 +106,15 @@ def main():
             out.write(data)
         printed, copied = os.path.join(folder, "printed"), os.path.join(folder, "copied")
         command = [program, "show", "f:p=" + path, "--"] + ["p:" + name.decode() for name in sorted(file.names)]
-        run(command, printed)
+        timed(command, printed)
         with open(printed, "rb") as text:
             last = text.read().splitlines()[-1]
         assert last == b"decoded %d of %d" % (len(file.names), len(file.names)), last
-        rows = [(run(command, printed), run(["cat", printed], copied), run(["wc", "-l", path], copied)) for _ in range(RUNS)]
+        rows = [(timed(command, printed), timed(["cat", printed], copied), timed(["wc", "-l", path], copied)) for _ in range(RUNS)]
         size = os.path.getsize(printed)
     ours = statistics.median(row[0][0] for row in rows)
     print(f"{len(data)} bytes, {len(file.names)} names, {size} bytes printed, {RUNS} runs")
-    print(f"show: {ours * 1000:.1f} ms (median), {ours / len(data) * 1e9:.0f} ns a byte of the file, {max(row[0][1] for row in rows) / len(data):.1f} bytes of memory a byte")
+    print(f"show: {ours * 1000:.1f} ms (median), {ours / len(data) * 1e9:.0f} ns a byte of the file, {max(row[0][2] for row in rows) / len(data):.1f} bytes of memory a byte")
     for k, what in [(1, "cat of the text"), (2, "a scan of the file")]:
         ratios = [row[0][0] / row[k][0] for row in rows]
         print(f"ratio to {what}: median {statistics.median(ratios):.1f}, least {min(ratios):.1f}, greatest {max(ratios):.1f}")

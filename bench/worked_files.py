@@ -7,18 +7,7 @@ usage: bench/worked_files.py shapes|every > FILE
 """
 import sys
 
-
-def uvarint(n):
-    out = bytearray()
-    while n >= 128:
-        out.append(n & 127 | 128)
-        n >>= 7
-    out.append(n)
-    return bytes(out)
-
-
-def varint(x):
-    return uvarint(2 * x if x >= 0 else -2 * x - 1)
+from spelling import uvarint, varint
 
 
 class File:
