@@ -45,5 +45,5 @@ module _ {X : Type 0} where
 pub ends : {Y : Type 0} (e : ReadFault) (one : Reader Y) (front : List Y) (count i : ℕ) (a new : Ahead) (total : Result (List Y × Ahead) Stopped)
     → i < count → Stops e new (one a) → with_front front (times one (count - i) a) ≡ total → Stops e new total
 ends (Bytes f) one front count i a new total lt failed so_far = fails one front count i a (record { fault = f; mentions = new.mentions }) total lt failed so_far
-ends Nodes one front count i a new total lt failed so_far = tt
+ends Nodes one front count i a new total lt failed so_far = absurd failed
 ends OutOfMemory one front count i a new total lt failed so_far = tt

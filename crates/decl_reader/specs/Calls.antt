@@ -15,9 +15,10 @@ abbrev pub ahead_of : Block → Ahead
 ahead_of b = record { spot = b.cursor; before = b.before; mentions = b.mentions.items }
 
 -- An error that names a fault says what reading stops at, and the types that were named before; want of memory says nothing.
+-- Reading bytes adds no node, so it never wants one.
 abbrev pub Stops : {Y : Type 0} → ReadFault → Ahead → Result Y Stopped → Type 0
 Stops (Bytes f) new read = read ≡ Err (record { fault = f; mentions = new.mentions })
-Stops Nodes new read = Unit {0}
+Stops Nodes new read = ⊥
 Stops OutOfMemory new read = Unit {0}
 
 -- what a reader returned, seen by view, and the block that it left are what reading gives
