@@ -107,7 +107,7 @@ divided [] k x e = cc
 divided (y ∷ ys) zero x e = cc
 divided (y ∷ ys) (suc k) x e = ap (λ zs. y ∷ zs) (divided ys k x e)
 
-one_more : {X : Type 0} (xs : List X) (k : ℕ) (x : X) → slice_get xs k ≡ Some x → take (suc k) xs ≡ take k xs ++ (x ∷ [])
+pub one_more : {X : Type 0} (xs : List X) (k : ℕ) (x : X) → slice_get xs k ≡ Some x → take (suc k) xs ≡ take k xs ++ (x ∷ [])
 one_more [] k x e = cc
 one_more (y ∷ ys) zero x e = cc
 one_more (y ∷ ys) (suc k) x e = ap (λ zs. y ∷ zs) (one_more ys k x e)

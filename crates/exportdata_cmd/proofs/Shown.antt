@@ -17,11 +17,7 @@ use Rattle.exportdata_cmd.specs.LookedUp.{answer_of, answered, declared_by, IsKn
 use Rattle.exportdata_cmd.specs.declared.exits.Status.TheVariants.{Done, Refused}
 use Rattle.exportdata_cmd.specs.declared.showing.LookedUp.{LookedUp}
 use Rattle.exportdata_cmd.specs.declared.showing.LookedUp.TheVariants.{Unknown, Damaged, Declared}
-
-next_taken : {X : Type 0} (xs : List X) (k : ℕ) (x : X) → slice_get xs k ≡ Some x → take (suc k) xs ≡ take k xs ++ (x ∷ [])
-next_taken [] k x e = cc
-next_taken (y ∷ ys) zero x e = cc
-next_taken (y ∷ ys) (suc k) x e = ap (λ zs. y ∷ zs) (next_taken ys k x e)
+use Rattle.exportdata_cmd.proofs.Puts.{one_more}
 
 first_is : {X : Type 0} (x : X) (xs : List X) → Contains (x ∷ xs) x
 first_is x xs = Contains-get_or (x ∷ xs) 0 x (omega arith)
@@ -121,19 +117,19 @@ module _ (file : FullFile) where
   all_grown old new stays (n ∷ names) [] are = absurd are
   all_grown old new stays (n ∷ names) (a ∷ answers) are = (grown old new stays n a are.0, all_grown old new stays names answers are.1)
 
-  one_more : (read : List (ℕ × Outcome)) (names : List Name) (answers : List LookedUp) (name : Name) (one : LookedUp) → AreLookedUp file read names answers → IsLookedUp file read name one
+  one_looked_up : (read : List (ℕ × Outcome)) (names : List Name) (answers : List LookedUp) (name : Name) (one : LookedUp) → AreLookedUp file read names answers → IsLookedUp file read name one
       → AreLookedUp file read (names ++ name ∷ []) (answers ++ one ∷ [])
-  one_more read [] [] name one are is = (is, tt)
-  one_more read [] (a ∷ answers) name one are is = absurd are
-  one_more read (n ∷ names) [] name one are is = absurd are
-  one_more read (n ∷ names) (a ∷ answers) name one are is = (are.0, one_more read names answers name one are.1 is)
+  one_looked_up read [] [] name one are is = (is, tt)
+  one_looked_up read [] (a ∷ answers) name one are is = absurd are
+  one_looked_up read (n ∷ names) [] name one are is = absurd are
+  one_looked_up read (n ∷ names) (a ∷ answers) name one are is = (are.0, one_looked_up read names answers name one are.1 is)
 
   -- the names before a place, and the one at it
   pub looks_on : (old new : List (ℕ × Outcome)) (names : List Name) (k : ℕ) (name : Name) (answers : List LookedUp) (one : LookedUp) → slice_get names k ≡ Some name
       → ((number : ℕ) (outcome : Outcome) → read_for old number ≡ Some outcome → read_for new number ≡ Some outcome)
       → AreLookedUp file old (take k names) answers → IsLookedUp file new name one → AreLookedUp file new (take (suc k) names) (answers ++ one ∷ [])
   looks_on old new names k name answers one here stays are is =
-      rw (next_taken names k name here) (one_more new (take k names) answers name one (all_grown old new stays (take k names) answers are) is)
+      rw (one_more names k name here) (one_looked_up new (take k names) answers name one (all_grown old new stays (take k names) answers are) is)
 
   pub reads_on : (old new : List (ℕ × Outcome)) (names : List Name) (k : ℕ) (name : Name) → slice_get names k ≡ Some name
       → ((number : ℕ) (outcome : Outcome) → read_for new number ≡ Some outcome → (read_for old number ≡ Some outcome) ⊎ Gives file name.path name.name number outcome)
@@ -142,8 +138,8 @@ module _ (file : FullFile) where
       elim (only number outcome is) as (λ _. (one : Name) × Contains (take (suc k) names) one × Gives file one.path one.name number outcome) [
         | inl was ↦
             let b = before number outcome was in
-            (b.0, rw (next_taken names k name here) (Contains-append_left (take k names) (name ∷ []) b.0 b.1), b.2)
-        | inr gives ↦ (name, rw (next_taken names k name here) (Contains-append_right (take k names) (name ∷ []) name (first_is name [])), gives)
+            (b.0, rw (one_more names k name here) (Contains-append_left (take k names) (name ∷ []) b.0 b.1), b.2)
+        | inr gives ↦ (name, rw (one_more names k name here) (Contains-append_right (take k names) (name ∷ []) name (first_is name [])), gives)
       ]
 
   pub nothing_read : OnlyRead file [] []
