@@ -1,0 +1,7 @@
+//! The bytes that Go's string literals stand for.
+#![tactic(auto)]
+
+mod escapes;
+mod literals;
+
+pub use literals::{one_value, unquoted};
