@@ -5,3 +5,6 @@ mod escapes;
 mod literals;
 
 pub use literals::{one_value, unquoted};
+
+#[cfg(test)]
+mod tests;
