@@ -1,3 +1,4 @@
 pub mod Digits
 pub mod Passing
 pub mod Again
+pub mod Valued

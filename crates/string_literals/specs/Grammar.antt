@@ -1,5 +1,5 @@
 -- Which bytes a string literal stands for (the language specification's sections String literals and Rune literals), a case a rule.
-use Rattle.std.specs.Prelude.{◌≡◌, ◌≢◌, ◌<◌, ℕ, true, List, [], ◌∷◌, ◌++◌, encode_utf8}
+use Rattle.std.specs.Prelude.{◌≡◌, ◌≢◌, ◌<◌, ℕ, true, List, [], ◌∷◌, ◌++◌, encode_utf8, encode_utf8_all}
 use Rattle.go_lexer.specs.Characters.{line_feed, double_quote, back_quote, backslash}
 use Rattle.go_lexer.specs.Escapes.{is_code_point}
 use Rattle.go_lexer.specs.Grammar.{AreDigits}
@@ -38,3 +38,10 @@ pub data IsRawText : List ℕ → List ℕ → Type 0 where
 pub data HasValue : List ℕ → List ℕ → Type 0 where
   raw : (inside value : List ℕ) → IsRawText inside value → HasValue (back_quote ∷ (inside ++ (back_quote ∷ []))) value
   interpreted : (inside value : List ℕ) → IsText inside value → HasValue (double_quote ∷ (inside ++ (double_quote ∷ []))) value
+
+abbrev pub IsValued : List ℕ → Type 0
+IsValued literal = (value : List ℕ) × HasValue literal value
+
+-- a literal whose characters between two such quotes are these
+abbrev pub literal_of : ℕ → List ℕ → List ℕ
+literal_of mark inside = mark ∷ (encode_utf8_all inside ++ (mark ∷ []))

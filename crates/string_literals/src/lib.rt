@@ -4,7 +4,7 @@
 mod escapes;
 mod literals;
 
-pub use literals::{one_value, unquoted};
+pub use literals::{each_has_value, one_value, unquoted};
 
 #[cfg(test)]
 mod tests;

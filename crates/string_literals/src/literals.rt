@@ -1,6 +1,8 @@
-ghost use Rattle.std.specs.Prelude.{◌≡◌, ◌≤◌, ℕ, List, length, IfOk};
+ghost use Rattle.std.specs.Prelude.{◌≡◌, ◌≤◌, ◌==◌, not, ℕ, List, length, IfOk};
 ghost use Rattle.string_literals.specs.Values.{piece, text_after, raw_text, value_of};
-ghost use Rattle.string_literals.specs.Grammar.{HasValue};
+ghost use Rattle.string_literals.specs.Grammar.{HasValue, IsValued, literal_of};
+ghost use Rattle.go_lexer.specs.Grammar.{IsStringText, Each};
+ghost use Rattle.go_lexer.specs.Characters.{double_quote, back_quote};
 
 use crate::escapes::{Meaning, Piece, append, escape};
 use code_tables::Bytes;
@@ -78,4 +80,10 @@ pub fn unquoted(alloc: Global, literal: &[u8]) -> Result<Bytes, AllocError>
 /// A literal has at most one value.
 pub fn one_value()
     ensures { (literal value other : List ℕ) → HasValue literal value → HasValue literal other → value ≡ other }
+{}
+
+/// Each string of the lexical grammar has a value.
+pub fn each_has_value()
+    ensures interpreted { (inside : List ℕ) → IsStringText inside → IsValued (literal_of double_quote inside) }
+    ensures raw { (inside : List ℕ) → Each (λ c. not (c == back_quote)) inside → IsValued (literal_of back_quote inside) }
 {}
