@@ -5,7 +5,7 @@ use Rattle.go_syntax.specs.declared.symbols.Symbol.TheVariants as t
 use Rattle.go_syntax.specs.declared.symbols.Ident.{Ident}
 use Rattle.go_syntax.specs.declared.faults.Fault.TheVariants.{Unexpected, Deep, DotImport, Call}
 use Rattle.go_syntax.specs.declared.tree.NameExpr.{NameExpr}
-use Rattle.go_syntax.specs.Reading.{Reply, ◌>>=◌, past, choose, starts, is_dot, is_comma, Shape, series_end, series_by, series_item, series, rows, row, chain_end, chain, Fit, start_of, placed}
+use Rattle.go_syntax.specs.Reading.{Reply, told_at, from_start, ◌>>=◌, past, choose, starts, is_dot, is_comma, Shape, series_end, series_by, series_item, series, rows, row, chain_end, chain, Fit, start_of, placed}
 use Rattle.go_syntax.specs.Names.{plain, IsTypeName, own, of_package, IsNames, one, more, selected_by, dotted, names_more, names_at}
 use Rattle.go_syntax.proofs.NameReads.{after_ident}
 use Rattle.go_syntax.proofs.Rows.{Eats, series_is, chain_is}
@@ -13,7 +13,7 @@ use Rattle.go_syntax.proofs.Rows.{Eats, series_is, chain_is}
 -- The answer is this one, or a path is too long: the tree's has m nodes, and n are allowed.
 abbrev pub Agrees : {X : Type 0} → ℕ → ℕ → X → List Symbol → Reply X → Type 0
 Agrees n m x rest (Ok y) = (y.0 ≡ x) × (y.1 ≡ rest) × (m ≤ n)
-Agrees n m x rest (Err (Deep k)) = n < m
+Agrees n m x rest (Err (Deep k began)) = n < m
 Agrees n m x rest (Err (Unexpected k)) = ⊥
 Agrees n m x rest (Err (DotImport k)) = ⊥
 Agrees n m x rest (Err (Call k at)) = ⊥
@@ -22,10 +22,31 @@ pub agrees_bind : {A B : Type 0} (n m : ℕ) (a : A) (us : List Symbol) (i j : �
     → (n < m → i < j) → (m ≤ n → Agrees i j b rest (q a us)) → Agrees i j b rest (r >>= λ z. q z.0 z.1)
 agrees_bind n m a us i j b rest (Ok z) q h deeper fits =
     subst (λ c. Agrees i j b rest (q c z.1)) (sym h.0) (subst (λ vs. Agrees i j b rest (q a vs)) (sym h.1) (fits h.2))
-agrees_bind n m a us i j b rest (Err (Deep k)) q h deeper fits = deeper h
+agrees_bind n m a us i j b rest (Err (Deep k began)) q h deeper fits = deeper h
 agrees_bind n m a us i j b rest (Err (Unexpected k)) q h deeper fits = absurd h
 agrees_bind n m a us i j b rest (Err (DotImport k)) q h deeper fits = absurd h
 agrees_bind n m a us i j b rest (Err (Call k at)) q h deeper fits = absurd h
+
+pub told_again : {X : Type 0} (n m : ℕ) (x : X) (rest : List Symbol) (at : ℕ) (r : Reply X) → Agrees n m x rest r → Agrees n m x rest (told_at at r)
+told_again n m x rest at (Ok z) h = h
+told_again n m x rest at (Err (Unexpected k)) h = absurd h
+told_again n m x rest at (Err (Deep k began)) h = h
+told_again n m x rest at (Err (DotImport k)) h = absurd h
+told_again n m x rest at (Err (Call k c)) h = absurd h
+
+pub untold : {X : Type 0} (n m : ℕ) (x : X) (rest : List Symbol) (at : ℕ) (r : Reply X) → Agrees n m x rest (told_at at r) → Agrees n m x rest r
+untold n m x rest at (Ok z) h = h
+untold n m x rest at (Err (Unexpected k)) h = absurd h
+untold n m x rest at (Err (Deep k began)) h = h
+untold n m x rest at (Err (DotImport k)) h = absurd h
+untold n m x rest at (Err (Call k c)) h = absurd h
+
+pub untold_then : {A B : Type 0} (n m : ℕ) (x : B) (rest : List Symbol) (at : ℕ) (r : Reply A) (q : A × List Symbol → Reply B) → Agrees n m x rest (told_at at r >>= q) → Agrees n m x rest (r >>= q)
+untold_then n m x rest at (Ok z) q h = h
+untold_then n m x rest at (Err (Unexpected k)) q h = absurd h
+untold_then n m x rest at (Err (Deep k began)) q h = h
+untold_then n m x rest at (Err (DotImport k)) q h = absurd h
+untold_then n m x rest at (Err (Call k c)) q h = absurd h
 
 pub agrees_as : {X : Type 0} (n m : ℕ) (x y : X) (rest : List Symbol) (r : Reply X) → x ≡ y → Agrees n m x rest r → Agrees n m y rest r
 agrees_as n m x y rest r e h = subst (λ z. Agrees n m z rest r) e h

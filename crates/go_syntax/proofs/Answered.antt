@@ -1,5 +1,5 @@
 -- What the answer of a call says of a source.
-use Rattle.std.proofs.Common.{ℕ, ◌≤◌, List, [], Result, Ok, Err, refl, subst, arith}
+use Rattle.std.proofs.Common.{ℕ, ◌≤◌, List, [], Result, Ok, Err, refl, subst, arith, ◌≡◌}
 use Rattle.std.specs.Prelude.{IfOk, IfErr}
 use Rattle.go_lexer.specs.declared.token_kinds.Token.{Token}
 use Rattle.go_syntax.specs.declared.tree.SourceFile.{SourceFile}
@@ -12,7 +12,7 @@ use Rattle.go_syntax.specs.Decls.{IsFileOf}
 use Rattle.go_syntax.specs.Files.{file_at}
 use Rattle.go_syntax.specs.Outcomes.{IsFile, Explains}
 use Rattle.go_syntax.specs.Source.{symbols_of}
-use Rattle.go_syntax.specs.Parsing.{fault_of, answer_of, Tells, Answers}
+use Rattle.go_syntax.specs.Parsing.{fault_of, answer_of, Tells, Answers, placed_in, reading_of, IsReading}
 use Rattle.go_syntax.proofs.Laws.{is_found, is_only, is_within, explains}
 
 abbrev Reads : List ℕ → List Token → Result SourceFile Stop → Type 0
@@ -38,7 +38,7 @@ within_by src tokens (Err (stopped.At f)) h = tt
 
 told : (src : List ℕ) (tokens : List Token) (f : Fault) → Explains 1000 (symbols_of src tokens) f → Tells src tokens (fault_of src tokens f)
 told src tokens (stop.Unexpected left) h = (left, refl, h)
-told src tokens (stop.Deep left) h = (left, refl, h)
+told src tokens (stop.Deep left at) h = (left, h)
 told src tokens (stop.DotImport left) h = (left, refl, h)
 told src tokens (stop.Call left at) h = (left, h)
 
@@ -46,3 +46,14 @@ pub place_by : (src : List ℕ) (tokens : List Token) (r : Result SourceFile Sto
 place_by src tokens (Ok x) h = tt
 place_by src tokens (Err stopped.OutOfMemory) h = tt
 place_by src tokens (Err (stopped.At f)) h = told src tokens f (explains 1000 (omega arith) (symbols_of src tokens) f h)
+
+exact_at : (src : List ℕ) (tokens : List Token) (f : Fault) (read : Result SourceFile Fault) → read ≡ Err f → IsReading (Err (fault_of src tokens f)) (placed_in src tokens read)
+exact_at src tokens (stop.Unexpected left) read e = rw e refl
+exact_at src tokens (stop.Deep left at) read e = rw e refl
+exact_at src tokens (stop.DotImport left) read e = rw e refl
+exact_at src tokens (stop.Call left at) read e = rw e refl
+
+pub exact_by : (src : List ℕ) (tokens : List Token) (r : Result SourceFile Stop) → Reads src tokens r → IsReading (answer_of src tokens r) (reading_of src tokens)
+exact_by src tokens (Ok x) h = rw h refl
+exact_by src tokens (Err stopped.OutOfMemory) h = tt
+exact_by src tokens (Err (stopped.At f)) h = exact_at src tokens f (file_at 1000 (symbols_of src tokens)) h

@@ -1,4 +1,5 @@
 -- Constants that are written are read again.
+use Rattle.go_syntax.specs.declared.expressions.Operand.{Operand}
 use Rattle.std.proofs.Common.{◌≡◌, ℕ, ◌-◌, max, Bool, true, false, List, [], ◌∷◌, Some, None, Ok, refl, arith}
 use Rattle.go_syntax.specs.declared.symbols.Symbol.{Symbol}
 use Rattle.go_syntax.specs.declared.symbols.Symbol.TheVariants as t
@@ -6,16 +7,16 @@ use Rattle.go_syntax.specs.declared.symbols.Ident.{Ident}
 use Rattle.go_syntax.specs.declared.constants.Written.{Written}
 use Rattle.go_syntax.specs.declared.tree.Expr.{Expr}
 use Rattle.go_syntax.specs.declared.tree.TypeExpr.{TypeExpr}
-use Rattle.go_syntax.specs.Reading.{peek, starts, begins_type, is_comma, is_assign, is_open_paren, is_close_paren}
+use Rattle.go_syntax.specs.Reading.{peek, starts, begins_type, is_comma, is_assign, is_open_paren, is_close_paren, start_of}
 use Rattle.go_syntax.specs.Names as names_of
 use Rattle.go_syntax.specs.Names.{IsNames}
-use Rattle.go_syntax.specs.Operands.{expr_at}
+use Rattle.go_syntax.specs.Operands.{expr_at, outer_expr}
 use Rattle.go_syntax.specs.Grammar.{IsType}
 use Rattle.go_syntax.specs.Types.{type_at}
 use Rattle.go_syntax.specs.Constants as c
 use Rattle.go_syntax.specs.Constants.{written, IsExprs, IsConstSpec, exprs_more, exprs_end, exprs_step, exprs_at, const_values, const_assign, const_typed, const_empty, const_rest, const_more, const_spec_at}
 use Rattle.go_syntax.proofs.Steps.{steps_is}
-use Rattle.go_syntax.proofs.Agreeing.{Agrees, agrees_bind, sized, choose_other, names_again}
+use Rattle.go_syntax.proofs.Agreeing.{Agrees, agrees_bind, sized, choose_other, names_again, told_again}
 use Rattle.go_syntax.proofs.ExprAgain.{continues, next_level, Closed, expr_again}
 use Rattle.go_syntax.proofs.Follows.{next_so, no_comma, type_begins}
 use Rattle.go_syntax.proofs.TypeAgain.{type_again}
@@ -71,16 +72,19 @@ type_not_assign _ e = refl
 
 -- ---- lists of expressions
 
+outer_again : (n m : ℕ) (ts : List Symbol) (x : Operand) (rest : List Symbol) → Agrees n m (x, n - m) rest (expr_at n ts) → Agrees n m (x, n - m) rest (outer_expr n ts)
+outer_again n m ts x rest h = told_again n m (x, n - m) rest (start_of ts) (expr_at n ts) h
+
 exprs_again : (n m : ℕ) (ts : List Symbol) (xs : List Expr) (rest : List Symbol) → IsExprs m ts xs rest → Ended rest → Agrees n m xs rest (exprs_at n ts)
 exprs_again n m ts xs rest (c.one_expr j us x r a) e =
     rw (steps_is (exprs_step n) (exprs_local n) us)
-    (agrees_bind n j (x, n - j) r n j (x.expr ∷ []) r (expr_at n us) (λ z vs. exprs_end (exprs_at n) (z.0).expr vs)
-    (expr_again j us x r a (ended_closed r e) (λ p. let z : next_level r ≡ 0 = ended_level r e in absurd (omega (arith, p))) n) (λ d. d)
+    (agrees_bind n j (x, n - j) r n j (x.expr ∷ []) r (outer_expr n us) (λ z vs. exprs_end (exprs_at n) (z.0).expr vs)
+    (outer_again n j us x r (expr_again j us x r a (ended_closed r e) (λ p. let z : next_level r ≡ 0 = ended_level r e in absurd (omega (arith, p))) n)) (λ d. d)
     (λ f. rw (choose_other is_comma r (exprs_more (exprs_at n) x.expr) (Ok (x.expr ∷ [], r)) (ended_comma r e)) (refl, refl, f)))
 exprs_again n m ts xs rest (c.more_exprs i j at us x vs ys r a b) e =
     rw (steps_is (exprs_step n) (exprs_local n) us)
-    (agrees_bind n i (x, n - i) (t.Comma at ∷ vs) n (max i j) (x.expr ∷ ys) r (expr_at n us) (λ z ws. exprs_end (exprs_at n) (z.0).expr ws)
-    (expr_again i us x (t.Comma at ∷ vs) a refl (λ p. omega (arith, p)) n) (λ d. omega arith)
+    (agrees_bind n i (x, n - i) (t.Comma at ∷ vs) n (max i j) (x.expr ∷ ys) r (outer_expr n us) (λ z ws. exprs_end (exprs_at n) (z.0).expr ws)
+    (outer_again n i us x (t.Comma at ∷ vs) (expr_again i us x (t.Comma at ∷ vs) a refl (λ p. omega (arith, p)) n)) (λ d. omega arith)
     (λ f. agrees_bind n j ys r n (max i j) (x.expr ∷ ys) r (exprs_at n vs) (λ zs ws. Ok (x.expr ∷ zs, ws)) (exprs_again n j vs ys r b e) (λ d. omega arith) (λ w. (refl, refl, omega arith))))
 
 -- ---- specifications

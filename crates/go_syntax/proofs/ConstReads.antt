@@ -8,11 +8,11 @@ use Rattle.go_syntax.specs.declared.tree.Expr.{Expr}
 use Rattle.go_syntax.specs.Reading.{Reply, ◌>>=◌, peek, begins_type, is_comma, is_assign}
 use Rattle.go_syntax.specs.Names.{plain, IsNames, one, more, ident_at, names_at}
 use Rattle.go_syntax.specs.Expressions.{constant}
-use Rattle.go_syntax.specs.Operands.{expr_at}
+use Rattle.go_syntax.specs.Operands.{expr_at, outer_expr}
 use Rattle.go_syntax.specs.Types.{type_at}
 use Rattle.go_syntax.specs.Constants as c
 use Rattle.go_syntax.specs.Constants.{written, IsExprs, IsConstSpec, exprs_more, exprs_end, exprs_step, exprs_at, const_values, const_assign, const_typed, const_empty, const_rest, const_more, const_first, const_spec_at}
-use Rattle.go_syntax.proofs.Viable.{ReadsAt, Behind, Past, After, done_reads, like_reads, as_reads, past_reads, choose_reads_on, choose_reads, peek_reads, bind_reads, value_reads}
+use Rattle.go_syntax.proofs.Viable.{ReadsAt, Behind, Past, After, done_reads, like_reads, as_reads, past_reads, choose_reads_on, choose_reads, peek_reads, bind_reads, value_reads, from_start_reads}
 use Rattle.go_syntax.proofs.Marks.{comma, assign}
 use Rattle.go_syntax.proofs.NameReads.{IsIdent, any_ident, ident_reads, names_reads, no_names, through_value}
 use Rattle.go_syntax.proofs.OperandReads.{ExprAt, alone_up}
@@ -34,23 +34,26 @@ any_values = (constant (plain any_ident)).expr ∷ []
 one_value : (tail : List Symbol) → IsExprs 1 (t.Ident any_ident ∷ tail) any_values tail
 one_value tail = c.one_expr 1 (t.Ident any_ident ∷ tail) (constant (plain any_ident)) tail (alone_up 5 tail)
 
+pub outer_reads : (n : ℕ) (ts : List Symbol) → ReadsAt (ExprAt 5) (outer_expr n) ts (outer_expr n ts)
+outer_reads n ts = from_start_reads (ExprAt 5) (expr_at n) ts (expr_at n ts) (expr_reads n 5 ts)
+
 pub exprs_local : (n : ℕ) → Local (exprs_step n)
 exprs_local n f g ts h =
-    bind_same (expr_at n ts) _ _ (λ z e.
-    let a : length z.1 ≤ length ts = no_longer (ExprAt 5) (expr_at n) ts z.0 z.1 (subst (ReadsAt (ExprAt 5) (expr_at n) ts) e (expr_reads n 5 ts)) in
+    bind_same (outer_expr n ts) _ _ (λ z e.
+    let a : length z.1 ≤ length ts = no_longer (ExprAt 5) (outer_expr n) ts z.0 z.1 (subst (ReadsAt (ExprAt 5) (outer_expr n) ts) e (outer_reads n ts)) in
     choose_same is_comma (exprs_more f (z.0.0).expr) (exprs_more g (z.0.0).expr) (Ok ((z.0.0).expr ∷ [], z.1)) (Ok ((z.0.0).expr ∷ [], z.1)) z.1
     (λ us less. ap (λ (m : Reply (List Expr)). m >>= λ xs. Ok ((z.0.0).expr ∷ xs.0, xs.1)) (h us (omega arith))) refl)
 
 exprs_step_reads : (n : ℕ) (later : List Symbol → Reply (List Expr)) (ts : List Symbol) → ((vs : List Symbol) → length vs < length ts → ReadsAt ExprsAt later vs (later vs)) → ReadsAt ExprsAt (exprs_step n later) ts (exprs_step n later ts)
 exprs_step_reads n later ts h =
-    bind_reads (ExprAt 5) ExprsAt (expr_at n) (λ z us. exprs_end later (z.0).expr us) ts
+    bind_reads (ExprAt 5) ExprsAt (outer_expr n) (λ z us. exprs_end later (z.0).expr us) ts
     (λ z. record { tokens = []; made = (z.0).expr ∷ []; stands = λ tail us w. (w.0, c.one_expr w.0 us z.0 tail w.1) })
     (λ z us o.
-    let a : length us ≤ length ts = no_longer (ExprAt 5) (expr_at n) ts z us o in
+    let a : length us ≤ length ts = no_longer (ExprAt 5) (outer_expr n) ts z us o in
     choose_reads_on is_comma (After (ExprAt 5) ExprsAt z) comma (exprs_more later (z.0).expr) (λ vs. Ok ((z.0).expr ∷ [], vs)) us
     (λ vs less. value_reads ExprsAt (Past comma (After (ExprAt 5) ExprsAt z)) later (λ xs. (z.0).expr ∷ xs) vs (λ ws xs rest w at ys v. (max v.0 w.0, c.more_exprs v.0 w.0 at ys z.0 ws xs rest v.1 w.1)) (later vs) (h vs (omega arith)))
     (λ e. done_reads (After (ExprAt 5) ExprsAt z) (λ vs. Ok ((z.0).expr ∷ [], vs)) us ((z.0).expr ∷ []) (λ tail vs w. (w.0, c.one_expr w.0 vs z.0 tail w.1)) (λ r e'. refl)))
-    (expr_at n ts) (expr_reads n 5 ts)
+    (outer_expr n ts) (outer_reads n ts)
 
 exprs_read : (n : ℕ) (ts : List Symbol) → ReadsAt ExprsAt (exprs_at n) ts (exprs_at n ts)
 exprs_read n ts = steps_read ExprsAt (exprs_step n) (exprs_local n) (exprs_step_reads n) ts

@@ -10,46 +10,45 @@ use Rattle.go_syntax.specs.declared.faults.Fault.{Fault}
 use Rattle.go_syntax.specs.declared.faults.Stop.{Stop}
 use Rattle.go_syntax.specs.declared.faults.Stop.TheVariants as stop
 use Rattle.go_syntax.specs.Reading.{Reply, ◌>>=◌, past, is_comma, is_semicolon, is_close_paren, series_by, rows, row, Fails}
-use Rattle.go_syntax.specs.Operands.{expr_at}
+use Rattle.go_syntax.specs.Operands.{outer_expr}
 use Rattle.go_syntax.specs.Constants.{source_of, constants, exprs_step, exprs_at, const_spec_at}
 use Rattle.go_syntax.specs.Files.{counting}
 use Rattle.go_syntax.proofs.Rows.{Eats, eats_of, row_is, past_shorter}
 use Rattle.go_syntax.proofs.Steps.{steps_is}
 use Rattle.go_syntax.proofs.Turns.{with_front, regroup}
 use Rattle.go_syntax.proofs.OperandReads.{ExprAt, no_expr_here}
-use Rattle.go_syntax.proofs.ExprReads.{expr_reads}
-use Rattle.go_syntax.proofs.ConstReads.{exprs_local, const_eats}
+use Rattle.go_syntax.proofs.ConstReads.{outer_reads, exprs_local, const_eats}
 
 -- ---- lists of expressions
 
-expr_eats : (n : ℕ) → Eats (expr_at n)
-expr_eats n = eats_of (ExprAt 5) (expr_at n) (no_expr_here 5) (expr_reads n 5)
+expr_eats : (n : ℕ) → Eats (outer_expr n)
+expr_eats n = eats_of (ExprAt 5) (outer_expr n) (no_expr_here 5) (outer_reads n)
 
 exprs_open : (n : ℕ) (found : List Expr) (rest : List Symbol) → with_front found (exprs_at n rest) ≡ with_front found (exprs_step n (exprs_at n) rest)
 exprs_open n found rest = ap (with_front found) (steps_is (exprs_step n) (exprs_local n) rest)
 
-exprs_fail : (n : ℕ) (found : List Expr) (rest : List Symbol) (f : Fault) (total : Reply (List Expr)) → expr_at n rest ≡ Err f → with_front found (exprs_at n rest) ≡ total → total ≡ Err f
+exprs_fail : (n : ℕ) (found : List Expr) (rest : List Symbol) (f : Fault) (total : Reply (List Expr)) → outer_expr n rest ≡ Err f → with_front found (exprs_at n rest) ≡ total → total ≡ Err f
 exprs_fail n found rest f total e so =
     let here : with_front found (exprs_step n (exprs_at n) rest) ≡ Err f = rw e refl in
     sym so ∙ exprs_open n found rest ∙ here
 
-pub exprs_stop : (n : ℕ) (found : List Expr) (rest : List Symbol) (s : Stop) (total : Reply (List Expr)) → Fails s (expr_at n rest) → with_front found (exprs_at n rest) ≡ total → Fails s total
+pub exprs_stop : (n : ℕ) (found : List Expr) (rest : List Symbol) (s : Stop) (total : Reply (List Expr)) → Fails s (outer_expr n rest) → with_front found (exprs_at n rest) ≡ total → Fails s total
 exprs_stop n found rest stop.OutOfMemory total e so = tt
 exprs_stop n found rest (stop.At f) total e so = exprs_fail n found rest f total e so
 
-pub exprs_done : (n : ℕ) (found : List Expr) (rest : List Symbol) (x : Operand) (spare : ℕ) (after : List Symbol) (f : Fault) (total : Reply (List Expr)) → expr_at n rest ≡ Ok ((x, spare), after) → past is_comma after ≡ Err f
+pub exprs_done : (n : ℕ) (found : List Expr) (rest : List Symbol) (x : Operand) (spare : ℕ) (after : List Symbol) (f : Fault) (total : Reply (List Expr)) → outer_expr n rest ≡ Ok ((x, spare), after) → past is_comma after ≡ Err f
     → with_front found (exprs_at n rest) ≡ total → total ≡ Ok (found ++ x.expr ∷ [], after)
 exprs_done n found rest x spare after f total e p so =
     let here : with_front found (exprs_step n (exprs_at n) rest) ≡ Ok (found ++ x.expr ∷ [], after) = rw (e, p) refl in
     sym so ∙ exprs_open n found rest ∙ here
 
-pub exprs_go : (n : ℕ) (found : List Expr) (rest : List Symbol) (x : Operand) (spare : ℕ) (after next : List Symbol) (total : Reply (List Expr)) → expr_at n rest ≡ Ok ((x, spare), after) → past is_comma after ≡ Ok next
+pub exprs_go : (n : ℕ) (found : List Expr) (rest : List Symbol) (x : Operand) (spare : ℕ) (after next : List Symbol) (total : Reply (List Expr)) → outer_expr n rest ≡ Ok ((x, spare), after) → past is_comma after ≡ Ok next
     → with_front found (exprs_at n rest) ≡ total → with_front (found ++ x.expr ∷ []) (exprs_at n next) ≡ total
 exprs_go n found rest x spare after next total e p so =
     let here : with_front found (exprs_step n (exprs_at n) rest) ≡ with_front (found ++ x.expr ∷ []) (exprs_at n next) = rw (e, p) (regroup found x.expr (exprs_at n next)) in
     sym here ∙ sym (exprs_open n found rest) ∙ so
 
-pub exprs_smaller : (n : ℕ) (rest : List Symbol) (x : Operand) (spare : ℕ) (after next : List Symbol) → expr_at n rest ≡ Ok ((x, spare), after) → past is_comma after ≡ Ok next → length next < length rest
+pub exprs_smaller : (n : ℕ) (rest : List Symbol) (x : Operand) (spare : ℕ) (after next : List Symbol) → outer_expr n rest ≡ Ok ((x, spare), after) → past is_comma after ≡ Ok next → length next < length rest
 exprs_smaller n rest x spare after next e p =
     let a : length after < length rest = expr_eats n rest ((x, spare), after) e in
     let b : length next < length after = past_shorter is_comma after next p in

@@ -9,12 +9,12 @@ use Rattle.go_syntax.specs.declared.tree.ElemExpr.{ElemExpr}
 use Rattle.go_syntax.specs.declared.tree.ElemExpr.TheVariants as elem
 use Rattle.go_syntax.specs.declared.tree.TypeExpr.{TypeExpr}
 use Rattle.go_syntax.specs.declared.tree.TypeExpr.TheVariants as y
-use Rattle.go_syntax.specs.Reading.{Reply, starts, begins_type, is_tilde, is_bar, is_open_paren, is_semicolon, is_close_brace, start_of, placed, Fit, fits}
+use Rattle.go_syntax.specs.Reading.{Reply, starts, begins_type, is_tilde, is_bar, is_open_paren, is_semicolon, is_close_brace, start_of, placed, Fit, fits, told_at, ◌>>=◌}
 use Rattle.go_syntax.specs.Grammar.{term}
 use Rattle.go_syntax.specs.Params.{sig_at}
 use Rattle.go_syntax.specs.Elements.{name_by, tilde_term, plain_term, term_at, terms_at, more_terms, after_type, after_tilde, tilde_by, type_first, union_at, shows_elem, name_first, union_elem, elem_at, elems_at}
 use Rattle.go_syntax.specs.Types.{readers, type_at, lower_at}
-use Rattle.go_syntax.proofs.Agreeing.{Agrees, agrees_bind, agrees_as, agrees_from, sized, fit_at, placed_again, choose_other, series_none, series_once, series_twice, less_none, less_last, less_more, chain_once, chain_twice}
+use Rattle.go_syntax.proofs.Agreeing.{Agrees, agrees_bind, agrees_as, agrees_from, sized, fit_at, placed_again, choose_other, series_none, series_once, series_twice, less_none, less_last, less_more, chain_once, chain_twice, untold_then}
 use Rattle.go_syntax.proofs.NameReads.{through_value}
 use Rattle.go_syntax.proofs.Follows.{no_tilde}
 use Rattle.go_syntax.proofs.TypeReads.{term_eats, elem_eats}
@@ -131,16 +131,18 @@ method_again n m i us s rest o h =
     rw o (agrees_bind n m (sized n m s) rest n m (sized n m (elem.Method i s i.start)) rest (sig_at n (type_at n) us) (λ z ws. Ok ((elem.Method i z.0 i.start, z.1), ws)) h (λ d. d) (λ le. (refl, refl, le)))
 
 -- an embedded type that begins with an identifier
-name_union : (n : ℕ) (i : Ident) (us : List Symbol) → union_at (suc n) (type_at (suc n)) (lower_at (suc n)) (t.Ident i ∷ us) ≡ name_first n (lower_at (suc n)) i us
+name_union : (n : ℕ) (i : Ident) (us : List Symbol) → union_at (suc n) (type_at (suc n)) (lower_at (suc n)) (t.Ident i ∷ us) ≡ (told_at i.start (name_by n (type_at n) i us) >>= λ z. after_type (lower_at (suc n)) z.0.0 z.0.1 i.start z.1)
 unfolding readers
-name_union n i us = through_value (name_by n i us) (λ (x : Fit TypeExpr). (x, i.start)) (λ z ws. after_type (lower_at (suc n)) z.0.0 z.0.1 z.1 ws)
+name_union n i us = through_value (told_at i.start (name_by n (type_at n) i us)) (λ (x : Fit TypeExpr). (x, i.start)) (λ z ws. after_type (lower_at (suc n)) z.0.0 z.0.1 z.1 ws)
 
 pub ident_again : (n m : ℕ) (i : Ident) (us : List Symbol) (ty : TypeExpr) (rest : List Symbol) → starts is_open_paren us ≡ false → starts shows_elem us ≡ true → 1 ≤ m → Agrees n m (sized n m ty) rest (union_at n (type_at n) (lower_at n) (t.Ident i ∷ us))
     → Agrees n m (sized n m (elem.Embedded ty i.start)) rest (elem_at n (type_at n) (lower_at n) (t.Ident i ∷ us))
 ident_again zero m i us ty rest o s p h = rw (o, s) (omega arith)
 ident_again (suc n) m i us ty rest o s p h =
     rw o (agrees_bind (suc n) m (sized (suc n) m ty) rest (suc n) m (sized (suc n) m (elem.Embedded ty i.start)) rest (name_first n (lower_at (suc n)) i us) (λ z ws. Ok ((elem.Embedded z.0 i.start, z.1), ws))
-    (subst (Agrees (suc n) m (sized (suc n) m ty) rest) (name_union n i us) h) (λ d. d) (λ le. (refl, refl, le)))
+    (subst (λ (read : List Symbol → Reply (Fit TypeExpr)). Agrees (suc n) m (sized (suc n) m ty) rest (name_by n read i us >>= λ z. after_type (lower_at (suc n)) z.0.0 z.0.1 i.start z.1)) (sym (lower_step n))
+    (untold_then (suc n) m (sized (suc n) m ty) rest i.start (name_by n (type_at n) i us) (λ z. after_type (lower_at (suc n)) z.0.0 z.0.1 i.start z.1) (subst (Agrees (suc n) m (sized (suc n) m ty) rest) (name_union n i us) h)))
+    (λ d. d) (λ le. (refl, refl, le)))
 
 -- one that doesn't
 pub union_again_at : (n m : ℕ) (us : List Symbol) (ty : TypeExpr) (rest : List Symbol) → Agrees n m (sized n m ty) rest (union_at n (type_at n) (lower_at n) us) → Agrees n m (sized n m (elem.Embedded ty (start_of us))) rest (union_elem n (type_at n) (lower_at n) us)

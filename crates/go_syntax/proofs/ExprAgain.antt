@@ -10,7 +10,7 @@ use Rattle.go_syntax.specs.declared.symbols.Ident.{Ident}
 use Rattle.go_syntax.specs.declared.faults.Fault.TheVariants.{Unexpected, Deep, DotImport, Call}
 use Rattle.go_syntax.specs.declared.tree.NameExpr.{NameExpr}
 use Rattle.go_syntax.specs.declared.expressions.Operand.{Operand}
-use Rattle.go_syntax.specs.Reading.{Reply, ◌>>=◌, unexpected, too_deep, starts, is_dot, is_close_paren, is_close_bracket}
+use Rattle.go_syntax.specs.Reading.{Reply, ◌>>=◌, unexpected, too_deep, starts, is_dot, is_close_paren, is_close_bracket, symbol_start, start_of}
 use Rattle.go_syntax.specs.Names.{own, of_package, dotted}
 use Rattle.go_syntax.specs.Expressions as ex
 use Rattle.go_syntax.specs.Expressions.{level, is_unary, between_of, text_token, literal, constant, conversion, enclosed, unary, binary, IsExpr}
@@ -142,22 +142,22 @@ signed_again (suc n) m op at us y rest s h =
 -- The reading goes on with the operators of level l + 1 behind this tree, or a path is too long already.
 data Climbing (l : ℕ) : ℕ → ℕ → Operand → List Symbol → Reply Sized → Type 0 where
   on_it : (i m : ℕ) (x : Operand) (rest : List Symbol) (r : Reply Sized) → m ≤ suc i → r ≡ climb (suc l) (expr_of i l) (x, suc i - m) rest → Climbing l (suc i) m x rest r
-  over : (n m : ℕ) (x : Operand) (rest : List Symbol) (r : Reply Sized) (k : ℕ) → n < m → r ≡ Err (Deep k) → Climbing l n m x rest r
+  over : (n m : ℕ) (x : Operand) (rest : List Symbol) (r : Reply Sized) (k began : ℕ) → n < m → r ≡ Err (Deep k began) → Climbing l n m x rest r
 
 settled : (l n m : ℕ) (x : Operand) (rest : List Symbol) (r : Reply Sized) → Climbing l n m x rest r → Beyond (suc l) rest → Agrees n m (x, n - m) rest r
 settled l n m x rest r (on_it i m' x' rest' r' le e) h = rw (e, climb_is (suc l) (expr_of i l) (x, suc i - m) rest, no_operator l rest h) (refl, refl, le)
-settled l n m x rest r (over n' m' x' rest' r' k less e) h = rw e less
+settled l n m x rest r (over n' m' x' rest' r' k began less e) h = rw e less
 
 lifted : (l i m : ℕ) (x : Operand) (rest : List Symbol) (r : Reply Sized) → Agrees (suc i) m (x, suc i - m) rest r → Climbing l (suc i) m x rest (r >>= λ z. climb (suc l) (expr_of i l) z.0 z.1)
 lifted l i m x rest (Ok z) h =
     on_it i m x rest _ h.2 (ap (λ (y : Sized). climb (suc l) (expr_of i l) y z.1) h.0 ∙ ap (λ (us : List Symbol). climb (suc l) (expr_of i l) (x, suc i - m) us) h.1)
-lifted l i m x rest (Err (Deep k)) h = over (suc i) m x rest _ k h refl
+lifted l i m x rest (Err (Deep k began)) h = over (suc i) m x rest _ k began h refl
 lifted l i m x rest (Err (Unexpected k)) h = absurd h
 lifted l i m x rest (Err (DotImport k)) h = absurd h
 lifted l i m x rest (Err (Call k at)) h = absurd h
 
 none_lifted : (l m : ℕ) (x : Operand) (ts rest : List Symbol) (b : Bool) → Agrees {X = Sized} 0 m (x, 0 - m) rest (if b then too_deep ts else unexpected ts) → Climbing l 0 m x rest (if b then too_deep ts else unexpected ts)
-none_lifted l m x ts rest true h = over 0 m x rest _ (length ts) h refl
+none_lifted l m x ts rest true h = over 0 m x rest _ (length ts) (start_of ts) h refl
 none_lifted l m x ts rest false h = absurd h
 
 lift : (l n m : ℕ) (ts : List Symbol) (x : Operand) (rest : List Symbol) → Agrees n m (x, n - m) rest (expr_of n l ts) → Climbing l n m x rest (expr_of n (suc l) ts)
@@ -175,14 +175,14 @@ behind l i m j s x op y rest r (Ok z) le e h same =
     (same ∙ ap (λ (w : Sized). climb (suc l) (expr_of i l) (binary op x w.0, min s w.1) z.1) h.0
     ∙ ap (λ (k : ℕ). climb (suc l) (expr_of i l) (binary op x y, k) z.1) (least i m j s e h.2)
     ∙ ap (λ (us : List Symbol). climb (suc l) (expr_of i l) (binary op x y, suc i - suc (max m j)) us) h.1)
-behind l i m j s x op y rest r (Err (Deep k)) le e h same = over (suc i) (suc (max m j)) (binary op x y) rest r k (let f : i < j = h in omega arith) same
+behind l i m j s x op y rest r (Err (Deep k began)) le e h same = over (suc i) (suc (max m j)) (binary op x y) rest r k began (let f : i < j = h in omega arith) same
 behind l i m j s x op y rest r (Err (Unexpected k)) le e h same = absurd h
 behind l i m j s x op y rest r (Err (DotImport k)) le e h same = absurd h
 behind l i m j s x op y rest r (Err (Call k at)) le e h same = absurd h
 
 turned : (l i m j spare : ℕ) (x : Operand) (k : Symbol) (op : Operator) (us : List Symbol) (y : Operand) (rest : List Symbol) (r : Reply Sized) → m ≤ suc i → spare ≡ suc i - m → Agrees i j (y, i - j) rest (expr_of i l us)
     → r ≡ climb_on spare (climb (suc l) (expr_of i l)) (expr_of i l) x (k ∷ us) op us → Climbing l (suc i) (suc (max m j)) (binary op x y) rest r
-turned l i m j zero x k op us y rest r le e h same = over (suc i) (suc (max m j)) (binary op x y) rest r (length (k ∷ us)) (omega arith) same
+turned l i m j zero x k op us y rest r le e h same = over (suc i) (suc (max m j)) (binary op x y) rest r (length (k ∷ us)) (symbol_start k) (omega arith) same
 turned l i m j (suc s) x k op us y rest r le e h same = behind l i m j s x op y rest r (expr_of i l us) le e h same
 
 climbed : (l n m j : ℕ) (x : Operand) (k : Symbol) (op : Operator) (us : List Symbol) (y : Operand) (rest : List Symbol) (r : Reply Sized) → Climbing l n m x (k ∷ us) r → between_of k ≡ Some op → level op ≡ suc l → AgreesAll l j us y rest
@@ -191,7 +191,7 @@ climbed l n m j x k op us y rest r (on_it i m' x' rest' r' le e) is of h =
     turned l i m j (suc i - m) x k op us y rest r le refl (h i)
     (e ∙ climb_is (suc l) (expr_of i l) (x, suc i - m) (k ∷ us)
     ∙ ap (λ (o : Reply Operator). pick o (climb_on (suc i - m) (climb (suc l) (expr_of i l)) (expr_of i l) x (k ∷ us)) (Ok ((x, suc i - m), k ∷ us))) (an_operator l k us op is of))
-climbed l n m j x k op us y rest r (over n' m' x' rest' r' d less e) is of h = over n (suc (max m j)) (binary op x y) rest r d (omega arith) e
+climbed l n m j x k op us y rest r (over n' m' x' rest' r' d began less e) is of h = over n (suc (max m j)) (binary op x y) rest r d began (omega arith) e
 
 -- ---- expressions
 

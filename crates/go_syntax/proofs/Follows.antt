@@ -9,10 +9,10 @@ use Rattle.go_syntax.specs.declared.tree.SigExpr.{SigExpr}
 use Rattle.go_syntax.specs.declared.tree.TermExpr.{TermExpr}
 use Rattle.go_syntax.specs.declared.tree.ElemExpr.{ElemExpr}
 use Rattle.go_syntax.specs.declared.tree.TypeExpr.{TypeExpr}
-use Rattle.go_syntax.specs.Reading.{starts, begins_type, is_comma, is_dot, is_open_paren, is_close_paren, is_close_brace, is_ellipsis, is_tilde, is_bar}
+use Rattle.go_syntax.specs.Reading.{starts, begins_type, is_comma, is_dot, is_open_paren, is_open_bracket, is_close_paren, is_close_bracket, is_close_brace, is_ellipsis, is_tilde, is_bar}
 use Rattle.go_syntax.specs.Names.{own, of_package, one, more, IsTag, none, some, tag_at}
 use Rattle.go_syntax.specs.Grammar as g
-use Rattle.go_syntax.specs.Grammar.{IsType, IsField, IsParam, IsSig, IsTerm, IsUnion, IsElem}
+use Rattle.go_syntax.specs.Grammar.{IsType, IsArgs, IsField, IsParam, IsSig, IsTerm, IsUnion, IsElem}
 use Rattle.go_syntax.specs.Params.{shows_type}
 use Rattle.go_syntax.specs.Elements.{shows_elem}
 use Rattle.go_syntax.specs.Types.{shows_embedded}
@@ -49,6 +49,18 @@ free_dot rest e = next_so goes_on is_dot false false rest on_dot (λ d. refl) e
 
 pub free_type : (rest : List Symbol) → Free rest → starts begins_type rest ≡ false
 free_type rest e = next_so goes_on begins_type false false rest on_type (λ d. refl) e
+
+on_bracket : (k : Symbol) → goes_on k ≡ false → is_open_bracket k ≡ false
+on_bracket (t.OpenBracket at) e = absurd cc
+on_bracket _ e = refl
+
+pub free_bracket : (rest : List Symbol) → Free rest → starts is_open_bracket rest ≡ false
+free_bracket rest e = next_so goes_on is_open_bracket false false rest on_bracket (λ d. refl) e
+
+-- after a type's name
+pub args_no_dot : (m : ℕ) (us : List Symbol) (args : List TypeExpr) (rest : List Symbol) → IsArgs m us args rest → starts is_dot rest ≡ false → starts is_dot us ≡ false
+args_no_dot m us args rest (g.no_args r) f = f
+args_no_dot m us args rest (g.some_args n o ts xs r e b) f = refl
 
 pub free_paren : (rest : List Symbol) → Free rest → starts is_open_paren rest ≡ false
 free_paren rest e = next_so goes_on is_open_paren false false rest on_paren (λ d. refl) e
@@ -111,8 +123,8 @@ not_shown ts b = next_so begins_type shows_type true false ts type_not_shown (λ
 -- ---- what begins with a type
 
 pub type_begins : (m : ℕ) (ts : List Symbol) (ty : TypeExpr) (rest : List Symbol) → IsType m ts ty rest → starts begins_type ts ≡ true
-type_begins m ts ty rest (g.name us x r (own i r')) = refl
-type_begins m ts ty rest (g.name us x r (of_package p d i r')) = refl
+type_begins m ts ty rest (g.name n us z r (g.by_name k vs x ws args r' (own i q) a)) = refl
+type_begins m ts ty rest (g.name n us z r (g.by_name k vs x ws args r' (of_package p d i q) a)) = refl
 type_begins m ts ty rest (g.paren n at c us z r a) = refl
 type_begins m ts ty rest (g.pointer n at us z r a) = refl
 type_begins m ts ty rest (g.slice n at c us z r a) = refl
@@ -125,6 +137,13 @@ type_begins m ts ty rest (g.struct n at b us fs r a) = refl
 type_begins m ts ty rest (g.func n at us s r a) = refl
 type_begins m ts ty rest (g.interface n at b us es r a) = refl
 
+type_no_bracket : (k : Symbol) → begins_type k ≡ true → is_close_bracket k ≡ false
+type_no_bracket (t.CloseBracket c) e = absurd cc
+type_no_bracket _ e = refl
+
+pub type_opens : (m : ℕ) (ts : List Symbol) (ty : TypeExpr) (rest : List Symbol) → IsType m ts ty rest → starts is_close_bracket ts ≡ false
+type_opens m ts ty rest w = next_so begins_type is_close_bracket true false ts type_no_bracket (λ e. refl) (type_begins m ts ty rest w)
+
 pub sig_opens : (m : ℕ) (ts : List Symbol) (s : SigExpr) (rest : List Symbol) → IsSig m ts s rest → starts is_open_paren ts ≡ true
 sig_opens m ts s rest (g.no_result w n at us ps r a) = refl
 sig_opens m ts s rest (g.results w x k n at o us vs ps rs r a b) = refl
@@ -133,9 +152,9 @@ sig_opens m ts s rest (g.result w k n at us vs ps ty r a e b) = refl
 pub field_no_close : (m : ℕ) (ts : List Symbol) (f : FieldExpr) (rest : List Symbol) → IsField m ts f rest → starts is_close_brace ts ≡ false
 field_no_close m ts f rest (g.shared n i names us vs ty ws tag r (one j r') w q) = refl
 field_no_close m ts f rest (g.shared n i names us vs ty ws tag r (more j c us' ns r' a) w q) = refl
-field_no_close m ts f rest (g.embedded x us vs tag r (own i r') q) = refl
-field_no_close m ts f rest (g.embedded x us vs tag r (of_package p d i r') q) = refl
-field_no_close m ts f rest (g.embedded_pointer at x us vs tag r a q) = refl
+field_no_close m ts f rest (g.embedded n us z vs tag r (g.by_name k ws x xs args r' (own i q') a) q) = refl
+field_no_close m ts f rest (g.embedded n us z vs tag r (g.by_name k ws x xs args r' (of_package p d i q') a) q) = refl
+field_no_close m ts f rest (g.embedded_pointer n at us z vs tag r a q) = refl
 
 pub param_no_close : (w v f : Bool) (m : ℕ) (ts : List Symbol) (x : ParamExpr) (rest : List Symbol) → IsParam w v f m ts x rest → starts is_close_paren ts ≡ false
 param_no_close w v f m ts x rest (g.unnamed v' n us ty r a) = no_close us (type_begins n us ty r a)

@@ -22,7 +22,7 @@ use Rattle.go_syntax.proofs.Marks.{comma, close_paren, open_paren, open_bracket,
 use Rattle.go_syntax.proofs.NameReads.{IsIdent, any_ident, ident_reads}
 use Rattle.go_syntax.proofs.Standing.{SigAt}
 use Rattle.go_syntax.proofs.ParamReads.{some_sig, sig_reads}
-use Rattle.go_syntax.proofs.TypeReads.{type_reads}
+use Rattle.go_syntax.proofs.TypeReads.{type_begun, type_reads}
 use Rattle.go_syntax.proofs.Rows.{IsSeries, series_reads, end_reads, Eats, eats_of}
 use Rattle.go_syntax.proofs.SkipReads.{SkippedAt, skip_reads}
 use Rattle.go_syntax.proofs.Groups.{Any}
@@ -168,7 +168,7 @@ sig_body_read n r i ps ts =
     bind_reads SigAt (SigBodyAt r i ps) (sig_at n (type_at n)) (λ sig us. body_at (function r i ps sig.0) us) ts
     (λ sig. record { tokens = []; made = function r i ps sig.0; stands = λ tail us w. (w.0, tail, sig.0, refl, w.1, f.no_body tail) })
     (λ sig us o. as_reads (BodyAt (function r i ps sig.0)) (After SigAt (SigBodyAt r i ps) sig) (body_at (function r i ps sig.0)) us (body_at (function r i ps sig.0) us) (λ vs x rest w ws q. (q.0, vs, sig.0, w.0, q.1, w.1)) (body_read (function r i ps sig.0) us))
-    (sig_at n (type_at n) ts) (sig_reads n (type_at n) (type_reads n) ts)
+    (sig_at n (type_at n) ts) (sig_reads n (type_at n) (type_reads n) (type_begun n) ts)
 
 some_sig_body : (r : Option Receiver) (i : Ident) (ps : List TParam) → Sample (SigBodyAt r i ps)
 some_sig_body r i ps = record { tokens = some_sig.tokens; made = function r i ps some_sig.made.0; stands = λ tail. let w = some_sig.stands tail in (w.0, tail, some_sig.made.0, refl, w.1, f.no_body tail) }

@@ -9,7 +9,7 @@ use Rattle.go_syntax.specs.declared.tree.TParam.{TParam}
 use Rattle.go_syntax.specs.declared.tree.TypeExpr.{TypeExpr}
 use Rattle.go_syntax.specs.declared.tree.TermExpr.{TermExpr}
 use Rattle.go_syntax.specs.declared.expressions.Operand.{Operand}
-use Rattle.go_syntax.specs.Reading.{Reply, starts, is_ident, is_comma, is_bar, is_open_bracket, is_close_bracket, series}
+use Rattle.go_syntax.specs.Reading.{Reply, starts, is_ident, is_comma, is_bar, is_open_bracket, is_close_bracket, series, start_of}
 use Rattle.go_syntax.specs.Names as names_of
 use Rattle.go_syntax.specs.Names.{IsNames, own, of_package}
 use Rattle.go_syntax.specs.Expressions as x
@@ -19,9 +19,9 @@ use Rattle.go_syntax.specs.Grammar.{IsType, IsTerm, IsUnion}
 use Rattle.go_syntax.specs.Elements.{union_at}
 use Rattle.go_syntax.specs.Types.{type_at, lower_at}
 use Rattle.go_syntax.specs.Generics as q
-use Rattle.go_syntax.specs.Generics.{tparam, IsTParam, IsTParams, IsGeneric, shows_length, opens_params, tparam_type, tparam_more, tparam_at, tparams, tparams_at, generic_at}
+use Rattle.go_syntax.specs.Generics.{tparam, IsTParam, IsTParams, IsGeneric, shows_length, opens_params, tparam_type, tparam_more, tparam_at, tparams, tparams_at, generic_at, constraint_at}
 use Rattle.go_syntax.proofs.Rows.{series_is}
-use Rattle.go_syntax.proofs.Agreeing.{Agrees, agrees_bind, agrees_from, sized, choose_other, names_again, series_opens, series_none, series_once, series_twice}
+use Rattle.go_syntax.proofs.Agreeing.{Agrees, agrees_bind, agrees_from, sized, choose_other, names_again, series_opens, series_none, series_once, series_twice, told_again}
 use Rattle.go_syntax.proofs.Follows.{Free, no_comma, type_begins}
 use Rattle.go_syntax.proofs.TypeAgain.{union_again}
 use Rattle.go_syntax.proofs.GenericReads.{tparam_eats, tparam_no_close}
@@ -29,7 +29,7 @@ use Rattle.go_syntax.proofs.GenericReads.{tparam_eats, tparam_no_close}
 -- a part that is no deeper doesn't matter
 pub agrees_more : {X : Type 0} (n m j : ℕ) (z : X) (rest : List Symbol) (r : Reply X) → m ≤ n → Agrees n j z rest r → Agrees n (max m j) z rest r
 agrees_more n m j z rest (Ok y) le h = (h.0, h.1, omega (arith, h.2))
-agrees_more n m j z rest (Err (Deep k)) le h = omega (arith, h)
+agrees_more n m j z rest (Err (Deep k began)) le h = omega (arith, h)
 agrees_more n m j z rest (Err (Unexpected k)) le h = absurd h
 agrees_more n m j z rest (Err (DotImport k)) le h = absurd h
 agrees_more n m j z rest (Err (Call k at)) le h = absurd h
@@ -52,7 +52,7 @@ tparam_is n i names ts us (names_of.more j c vs ns r w) e = rw (names_again vs n
 tparam_again : (n m : ℕ) (ts : List Symbol) (z : TParam) (rest : List Symbol) → IsTParam m ts z rest → starts is_bar rest ≡ false → Free rest → Agrees n m z rest (tparam_at n ts)
 tparam_again n m ts z rest (q.constrained j us i names vs ty r a w) b free =
     rw (tparam_is n i names us vs a (union_no_comma j vs ty r w))
-    (agrees_bind n j (sized n j ty) r n j (tparam (i ∷ names) ty i.start) r (union_at n (type_at n) (lower_at n) vs) (λ y ws. Ok (tparam (i ∷ names) y.0 i.start, ws)) (union_again j vs ty r w b free n) (λ d. d) (λ f. (refl, refl, f)))
+    (agrees_bind n j (sized n j ty) r n j (tparam (i ∷ names) ty i.start) r (constraint_at n vs) (λ y ws. Ok (tparam (i ∷ names) y.0 i.start, ws)) (told_again n j (sized n j ty) r (start_of vs) (union_at n (type_at n) (lower_at n) vs) (union_again j vs ty r w b free n)) (λ d. d) (λ f. (refl, refl, f)))
 
 -- ---- lists of type parameters
 
@@ -101,8 +101,8 @@ array_opens_none a (t.Ident j ∷ ts) h = rw (h refl) refl
 array_opens_none a (_ ∷ ts) h = refl
 
 pub type_opens_none : (m : ℕ) (ts : List Symbol) (ty : TypeExpr) (rest : List Symbol) → IsType m ts ty rest → opens_params ts ≡ false
-type_opens_none m ts ty rest (g.name us y r (own i r')) = refl
-type_opens_none m ts ty rest (g.name us y r (of_package p d i r')) = refl
+type_opens_none m ts ty rest (g.name n us z r (g.by_name k vs y ws args r' (own i q) a)) = refl
+type_opens_none m ts ty rest (g.name n us z r (g.by_name k vs y ws args r' (of_package p d i q) a)) = refl
 type_opens_none m ts ty rest (g.paren n at c us z r a) = refl
 type_opens_none m ts ty rest (g.pointer n at us z r a) = refl
 type_opens_none m ts ty rest (g.slice n at c us z r a) = refl

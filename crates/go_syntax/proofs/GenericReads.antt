@@ -14,11 +14,11 @@ use Rattle.go_syntax.specs.Elements.{union_at}
 use Rattle.go_syntax.specs.Types.{readers, type_at, lower_at}
 use Rattle.go_syntax.specs.Operands.{expr_of, climb_of}
 use Rattle.go_syntax.specs.Generics as q
-use Rattle.go_syntax.specs.Generics.{tparam, IsTParam, IsTParams, IsGeneric, shows_length, tparam_type, tparam_more, tparam_first, tparam_at, tparams, tparams_at, generic_at}
+use Rattle.go_syntax.specs.Generics.{tparam, IsTParam, IsTParams, IsGeneric, shows_length, tparam_type, tparam_more, tparam_first, tparam_at, tparams, tparams_at, generic_at, constraint_at}
 use Rattle.go_syntax.specs.Decls as d
 use Rattle.go_syntax.specs.Decls.{defined, alias, IsTypeSpec}
 use Rattle.go_syntax.specs.Files.{alias_by, defined_by, declared_by, generic_by, type_first}
-use Rattle.go_syntax.proofs.Viable.{next_is, ends_so, ReadsAt, Behind, Past, After, done_reads, like_reads, as_reads, cons_reads, choose_reads, bind_reads, value_reads, only_reads, starts_same}
+use Rattle.go_syntax.proofs.Viable.{next_is, ends_so, ReadsAt, Behind, Past, After, done_reads, like_reads, as_reads, cons_reads, choose_reads, bind_reads, value_reads, only_reads, starts_same, from_start_reads}
 use Rattle.go_syntax.proofs.Uncons.{uncons_reads}
 use Rattle.go_syntax.proofs.Marks.{comma, assign, open_bracket, close_bracket}
 use Rattle.go_syntax.proofs.NameReads.{IsIdent, any_ident, ident_reads, names_reads, no_names, through_value}
@@ -42,8 +42,8 @@ some_union tail = g.alone 1 (t.Ident any_ident ∷ tail) (named (plain any_ident
 
 type_reads_on : (n : ℕ) (i : Ident) (names : List Ident) (ts : List Symbol) → ReadsAt (Rest i names) (tparam_type n (i ∷ names) i.start) ts (tparam_type n (i ∷ names) i.start ts)
 type_reads_on n i names ts =
-    value_reads UnionAt (Rest i names) (union_at n (type_at n) (lower_at n)) (λ ty. tparam (i ∷ names) ty.0 i.start) ts (λ us ty rest w vs v. (w.0, q.constrained w.0 vs i names us ty.0 rest v w.1))
-    (union_at n (type_at n) (lower_at n) ts) (union_reads n (type_at n) (lower_at n) (type_reads n) (lower_reads n) ts)
+    value_reads UnionAt (Rest i names) (constraint_at n) (λ ty. tparam (i ∷ names) ty.0 i.start) ts (λ us ty rest w vs v. (w.0, q.constrained w.0 vs i names us ty.0 rest v w.1))
+    (constraint_at n ts) (from_start_reads UnionAt (union_at n (type_at n) (lower_at n)) ts (union_at n (type_at n) (lower_at n) ts) (union_reads n (type_at n) (lower_at n) (type_reads n) (lower_reads n) ts))
 
 abbrev flat : ℕ → Ident → List Symbol → Reply TParam
 flat n i ts = names_at ts >>= λ names. tparam_type n (i ∷ names.0) i.start names.1
@@ -220,7 +220,7 @@ params_side n i a j ts s =
 
 no_bare_bracket : (m a : ℕ) (ty : TypeExpr) (us : List Symbol) → IsType m (t.OpenBracket a ∷ []) ty us → ⊥
 no_bare_bracket m a ty us (g.array i n at c ts x vs z r w v) = no_expr_here 5 (x, 0) (t.CloseBracket c ∷ vs) (i, w)
-no_bare_bracket m a ty us (g.name ts x r w) = elim w [ ]
+no_bare_bracket m a ty us (g.name n ts z r (g.by_name k vs x ws args r' w b)) = elim w [ ]
 
 bracket_type : (n a : ℕ) (ts : List Symbol) → 2 ≤ n → ReadsAt (Behind (t.OpenBracket a) TypeAt) (λ us. type_at n (t.OpenBracket a ∷ us)) ts (type_at n (t.OpenBracket a ∷ ts))
 unfolding readers

@@ -40,7 +40,7 @@ ended r = r >>= λ z. at_end z.0 z.1
 
 only_one : (n m : ℕ) (f : SourceFile) (r : Reply SourceFile) → m ≤ n → Agrees n m f [] r → ended r ≡ Ok f
 only_one n m f (Ok z) le h = ap (λ (us : List Symbol). at_end z.0 us) h.1 ∙ ap (λ (x : SourceFile). at_end x []) h.0
-only_one n m f (Err (Deep k)) le h = absurd (omega arith)
+only_one n m f (Err (Deep k began)) le h = absurd (omega arith)
 only_one n m f (Err (Unexpected k)) le h = absurd h
 only_one n m f (Err (DotImport k)) le h = absurd h
 only_one n m f (Err (Call k at)) le h = absurd h
@@ -67,8 +67,8 @@ clash_dot n m k f r e h = subst (Agrees n m f []) e h
 clash_call : (n m k at : ℕ) (f : SourceFile) (r : Reply SourceFile) → r ≡ Err (Call k at) → Agrees n m f [] r → ⊥
 clash_call n m k at f r e h = subst (Agrees n m f []) e h
 
-clash_deep : (n m k : ℕ) (f : SourceFile) (r : Reply SourceFile) → r ≡ Err (Deep k) → Agrees n m f [] r → n < m
-clash_deep n m k f r e h = subst (Agrees n m f []) e h
+clash_deep : (n m k began : ℕ) (f : SourceFile) (r : Reply SourceFile) → r ≡ Err (Deep k began) → Agrees n m f [] r → n < m
+clash_deep n m k began f r e h = subst (Agrees n m f []) e h
 
 begins_of : (n : ℕ) (ts : List Symbol) (f : Fault) → (h : ReadNot FileAt (file_front n) ts f) → BeginsFile h.front
 begins_of n ts f h = (h.more, h.made, subst (λ us. IsFile us h.made) (ap (λ (us : List Symbol). h.front ++ us) (append-nil h.more)) (h.completes []))
@@ -112,14 +112,14 @@ deepens_if : (n : ℕ) (front rest : List Symbol) → ((r : List Symbol) (f : So
 deepens_if n front [] h = λ f m w. h [] f m refl (subst (λ us. IsFileOf m us f []) (sym (append-nil front)) w)
 deepens_if n front (k ∷ ts) h = λ more f m w. h (k ∷ more) f m refl w
 
-deep_at : (n : ℕ) → 2 ≤ n → (ts : List Symbol) (k : ℕ) → ReadNot FileAt (file_front n) ts (Deep k) → IsTooDeep n ts k
-deep_at n two ts k h = record {
+deep_at : (n : ℕ) → 2 ≤ n → (ts : List Symbol) (k began : ℕ) → ReadNot FileAt (file_front n) ts (Deep k began) → IsTooDeep n ts k
+deep_at n two ts k began h = record {
   front = h.front;
   rest = h.rest;
   split = h.split;
-  place = let e : Deep k ≡ Deep (length h.rest) = h.place in cc;
-  begins = begins_of n ts (Deep k) h;
-  deeper = deepens_if n h.front h.rest (λ r f m e w. clash_deep n m (length r) f (file_front n (h.front ++ r)) (h.stays r e) (again n m two (h.front ++ r) f w));
+  place = let e : Deep k began ≡ Deep (length h.rest) began = h.place in cc;
+  begins = begins_of n ts (Deep k began) h;
+  deeper = deepens_if n h.front h.rest (λ r f m e w. clash_deep n m (length r) began f (file_front n (h.front ++ r)) (h.stays r e) (again n m two (h.front ++ r) f w));
 }
 
 -- what is left after the last declaration
@@ -142,7 +142,7 @@ left_at n two ts g k us h = record {
 
 explains_not : (n : ℕ) → 2 ≤ n → (ts : List Symbol) (f : Fault) → ReadNot FileAt (file_front n) ts f → Explains n ts f
 explains_not n two ts (Unexpected k) h = unexpected_at n two ts k h
-explains_not n two ts (Deep k) h = deep_at n two ts k h
+explains_not n two ts (Deep k began) h = deep_at n two ts k began h
 explains_not n two ts (DotImport k) h = dot_at n two ts k h
 explains_not n two ts (Call k at) h = call_at n two ts k at h
 

@@ -1,5 +1,6 @@
 pub mod Viable
 pub mod Uncons
+pub mod EitherReads
 pub mod Marks
 pub mod Steps
 pub mod Rows
@@ -24,6 +25,8 @@ pub mod ConstTurns
 pub mod Agreeing
 pub mod Follows
 pub mod ExprAgain
+pub mod Misreading
+pub mod InstanceAgain
 pub mod FieldAgain
 pub mod ParamAgain
 pub mod ElemAgain
@@ -33,11 +36,13 @@ pub mod FuncAgain
 pub mod ConstAgain
 pub mod FileAgain
 pub mod Laws
+pub mod TreeLaws
 pub mod StepTurns
 pub mod Answered
 pub mod SpecTurns
 pub mod ParamTurns
 pub mod SmallFits
+pub mod InstanceTurns
 pub mod SkipTurns
 pub mod FuncTurns
 pub mod GenericTurns

@@ -4,15 +4,15 @@ use Rattle.go_syntax.specs.declared.symbols.Symbol.{Symbol}
 use Rattle.go_syntax.specs.declared.symbols.Symbol.TheVariants as t
 use Rattle.go_syntax.specs.declared.symbols.Ident.{Ident}
 use Rattle.go_syntax.specs.declared.params.Param.{Param}
-use Rattle.go_syntax.specs.declared.tree.NameExpr.{NameExpr}
 use Rattle.go_syntax.specs.declared.tree.ParamExpr.{ParamExpr}
 use Rattle.go_syntax.specs.declared.tree.TypeExpr.{TypeExpr}
-use Rattle.go_syntax.specs.Reading.{Reply, starts, begins_type, is_ident, is_comma, is_ellipsis, is_open_paren, is_close_paren, start_of, placed, peek, Fit, with_fit}
-use Rattle.go_syntax.specs.Names.{IsNames, one, more, dotted}
-use Rattle.go_syntax.specs.Grammar.{named, param, signature}
-use Rattle.go_syntax.specs.Params.{item, params, param_type, type_param, unnamed_param, lone_param, more_params, named_param, param_at, params_row, params_end, bare, shows_types, after_bare, shows_type, names_by, after_ident, params_from, result_list, result_type, no_results, results_by, sig_at}
+use Rattle.go_syntax.specs.Reading.{Reply, starts, begins_type, is_ident, is_comma, is_ellipsis, is_open_paren, is_open_bracket, is_close_paren, start_of, placed, peek, Fit, with_fit}
+use Rattle.go_syntax.specs.Names.{IsNames, one, more}
+use Rattle.go_syntax.specs.Grammar.{param, signature}
+use Rattle.go_syntax.specs.Params.{item, params, param_type, type_param, unnamed_param, lone_param, more_params, named_param, param_at, params_row, params_end, bare, shows_types, after_bare, shows_type, types_by, names_by, named_by, name_or_type, after_ident, params_from, result_list, result_type, no_results, results_by, sig_at}
 use Rattle.go_syntax.specs.Types.{type_at}
 use Rattle.go_syntax.proofs.Agreeing.{Agrees, agrees_bind, agrees_as, agrees_from, sized, fit_at, placed_again, choose_other, names_again, end_last, end_more, end_final, series_none, series_once, series_twice, series_final, less_none, less_last, less_more}
+use Rattle.go_syntax.proofs.Misreading.{Loses, first_counts, second_counts}
 use Rattle.go_syntax.proofs.Follows.{Free, free_type, free_paren, no_comma, no_dots, not_shown}
 use Rattle.go_syntax.proofs.TypeReads.{param_eats}
 
@@ -131,21 +131,32 @@ after_again v n m [] ts xs rest s h = behind_again n m 0 n [] xs rest (params_ro
 after_again v zero m (i ∷ names) ts xs rest s h = rw s (omega arith)
 after_again v (suc n) m (i ∷ names) ts xs rest s h = behind_again (suc n) m 1 n (map bare (i ∷ names)) xs rest (params_row false v (suc n) (type_at (suc n)) ts) (omega arith) (omega arith) (omega arith) h
 
--- a type's name follows
-pub types_again : (v : Bool) (n m : ℕ) (names : List Ident) (i : Ident) (us : List Symbol) (x : NameExpr) (vs : List Symbol) (xs : List ParamExpr) (rest : List Symbol) → starts shows_type us ≡ true → dotted i us ≡ Ok (x, vs)
-    → (1 ≤ n → Agrees n (max 1 m) (sized n (max 1 m) xs) rest (params_end false v n (type_at n) (found n 1 false (param [] false (named x) i.start)) vs))
-    → Agrees n (max (bare_height names) (max 1 m)) (sized n (max (bare_height names) (max 1 m)) (map bare names ++ xs)) rest (after_ident v n (type_at n) names i us)
-types_again v zero m names i us x vs xs rest s d h = rw s (omega arith)
-types_again v (suc n) m names i us x vs xs rest s d h =
-    let k : suc n - 1 ≡ n = omega arith in
-    rw (s, d) (subst (λ j. Agrees (suc n) (max (bare_height names) (max 1 m)) (sized (suc n) (max (bare_height names) (max 1 m)) (map bare names ++ xs)) rest
-    (with_fit (map bare names, n) (params_end false v (suc n) (type_at (suc n)) (item [] false (named x, j) i.start) vs))) k
-    (typed (behind_again (suc n) (max 1 m) 1 n (map bare names) xs rest (params_end false v (suc n) (type_at (suc n)) (found (suc n) 1 false (param [] false (named x) i.start)) vs) (omega arith) (omega arith) (omega arith) (h (omega arith)))))
-  where
-    typed : Agrees (suc n) (max 1 (max 1 m)) (sized (suc n) (max 1 (max 1 m)) (map bare names ++ xs)) rest (with_fit (map bare names, n) (params_end false v (suc n) (type_at (suc n)) (found (suc n) 1 false (param [] false (named x) i.start)) vs))
-        → Agrees (suc n) (max (bare_height names) (max 1 m)) (sized (suc n) (max (bare_height names) (max 1 m)) (map bare names ++ xs)) rest (with_fit (map bare names, n) (params_end false v (suc n) (type_at (suc n)) (found (suc n) 1 false (param [] false (named x) i.start)) vs))
-    typed a = let e : max 1 (max 1 m) ≡ max (bare_height names) (max 1 m) = omega (arith, small_height names) in
-        subst (λ j. Agrees (suc n) j (sized (suc n) j (map bare names ++ xs)) rest (with_fit (map bare names, n) (params_end false v (suc n) (type_at (suc n)) (found (suc n) 1 false (param [] false (named x) i.start)) vs))) e a
+-- a type that begins with the identifier follows
+pub types_by_again : (v : Bool) (n k j : ℕ) (names : List Ident) (i : Ident) (us : List Symbol) (ty : TypeExpr) (vs : List Symbol) (xs : List ParamExpr) (rest : List Symbol) → 1 ≤ k → k ≤ j → Agrees n k (sized n k ty) vs (type_at n (t.Ident i ∷ us))
+    → (k ≤ n → Agrees n j (sized n j xs) rest (params_end false v n (type_at n) (found n k false (param [] false ty i.start)) vs))
+    → Agrees n (max (bare_height names) j) (sized n (max (bare_height names) j) (map bare names ++ xs)) rest (types_by v n (type_at n) names i us)
+types_by_again v zero k j names i us ty vs xs rest p l h g = omega arith
+types_by_again v (suc n) k j names i us ty vs xs rest p l h g =
+    let same : max 1 j ≡ max (bare_height names) j = omega (arith, small_height names) in
+    agrees_bind (suc n) k (sized (suc n) k ty) vs (suc n) (max (bare_height names) j) (sized (suc n) (max (bare_height names) j) (map bare names ++ xs)) rest (type_at (suc n) (t.Ident i ∷ us))
+    (λ z ws. with_fit (map bare names, n) (params_end false v (suc n) (type_at (suc n)) (item [] false z i.start) ws)) h (λ d. omega arith)
+    (λ f. subst (λ o. Agrees (suc n) o (sized (suc n) o (map bare names ++ xs)) rest (with_fit (map bare names, n) (params_end false v (suc n) (type_at (suc n)) (found (suc n) k false (param [] false ty i.start)) vs))) same
+    (behind_again (suc n) j 1 n (map bare names) xs rest (params_end false v (suc n) (type_at (suc n)) (found (suc n) k false (param [] false ty i.start)) vs) (omega arith) (omega arith) (omega arith) (g f)))
+
+-- where the next token shows it
+pub types_again : (v : Bool) (n k j : ℕ) (names : List Ident) (i : Ident) (us : List Symbol) (ty : TypeExpr) (vs : List Symbol) (xs : List ParamExpr) (rest : List Symbol) → starts shows_type us ≡ true → 1 ≤ k → k ≤ j → Agrees n k (sized n k ty) vs (type_at n (t.Ident i ∷ us))
+    → (k ≤ n → Agrees n j (sized n j xs) rest (params_end false v n (type_at n) (found n k false (param [] false ty i.start)) vs))
+    → Agrees n (max (bare_height names) j) (sized n (max (bare_height names) j) (map bare names ++ xs)) rest (after_ident v n (type_at n) names i us)
+types_again v n k j names i us ty vs xs rest s p l h g = rw s (types_by_again v n k j names i us ty vs xs rest p l h g)
+
+-- before a bracket, where the reading as a name loses
+pub bracket_again : (v : Bool) (n k j : ℕ) (names : List Ident) (i : Ident) (o : ℕ) (us : List Symbol) (ty : TypeExpr) (vs : List Symbol) (xs : List ParamExpr) (rest : List Symbol) → 1 ≤ k → k ≤ j → Agrees n k (sized n k ty) vs (type_at n (t.Ident i ∷ t.OpenBracket o ∷ us))
+    → (k ≤ n → Agrees n j (sized n j xs) rest (params_end false v n (type_at n) (found n k false (param [] false ty i.start)) vs))
+    → Loses (named_by v n (type_at n) names i (t.OpenBracket o ∷ us)) (types_by v n (type_at n) names i (t.OpenBracket o ∷ us))
+    → Agrees n (max (bare_height names) j) (sized n (max (bare_height names) j) (map bare names ++ xs)) rest (after_ident v n (type_at n) names i (t.OpenBracket o ∷ us))
+bracket_again v n k j names i o us ty vs xs rest p l h g loses =
+    second_counts n (max (bare_height names) j) (sized n (max (bare_height names) j) (map bare names ++ xs)) rest (named_by v n (type_at n) names i (t.OpenBracket o ∷ us)) (types_by v n (type_at n) names i (t.OpenBracket o ∷ us)) loses
+    (types_by_again v n k j names i (t.OpenBracket o ∷ us) ty vs xs rest p l h g)
 
 -- one more identifier with a comma is one more type
 bare_more : (names : List Ident) (i : Ident) (xs : List ParamExpr) → map bare (names ++ i ∷ []) ++ xs ≡ map bare names ++ (bare i ∷ xs)
@@ -180,12 +191,19 @@ names_by_again : (v : Bool) (n m : ℕ) (names : List Ident) (i : Ident) (us : L
 names_by_again v n m [] i us ty rest b h = rw (lone_is v (type_at n) i us b) (param_type_again n m (i ∷ []) false i.start us ty rest h)
 names_by_again v n m (j ∷ names) i us ty rest b h = param_type_again n m (j ∷ names ++ i ∷ []) false j.start us ty rest h
 
+-- a name, before a bracket or not
+name_again : (v : Bool) (n j : ℕ) (names : List Ident) (i : Ident) (us : List Symbol) (xs : List ParamExpr) (rest : List Symbol) (b : Bool) → starts is_open_bracket us ≡ b → Agrees n j (sized n j xs) rest (named_by v n (type_at n) names i us)
+    → Agrees n j (sized n j xs) rest (name_or_type v n (type_at n) names i us)
+name_again v n j names i us xs rest true e h = rw e (first_counts n j (sized n j xs) rest (named_by v n (type_at n) names i us) (types_by v n (type_at n) names i us) h)
+name_again v n j names i us xs rest false e h = rw e h
+
 -- after the first parameter
 pub first_again : (v : Bool) (n m j : ℕ) (f : Bool) (x : ParamExpr) (us vs : List Symbol) (xs : List ParamExpr) (rest : List Symbol) (names : List Ident) (i : Ident) → starts shows_type us ≡ false
     → Agrees n m (found n m f x) vs (names_by v (type_at n) names i us) → m ≤ j → (m ≤ n → Agrees n j (sized n j xs) rest (params_end true v n (type_at n) (found n m f x) vs)) → Agrees n j (sized n j xs) rest (after_ident v n (type_at n) names i us)
 first_again v n m j f x us vs xs rest names i s h l g =
-    rw s (agrees_bind n m (found n m f x) vs n j (sized n j xs) rest (names_by v (type_at n) names i us) (λ z ws. with_fit ([], n) (params_end true v n (type_at n) z ws)) h (λ d. omega arith)
-    (λ le. none_again n j xs rest (params_end true v n (type_at n) (found n m f x) vs) (g le)))
+    rw s (name_again v n j names i us xs rest (starts is_open_bracket us) refl
+    (agrees_bind n m (found n m f x) vs n j (sized n j xs) rest (names_by v (type_at n) names i us) (λ z ws. with_fit ([], n) (params_end true v n (type_at n) z ws)) h (λ d. omega arith)
+    (λ le. none_again n j xs rest (params_end true v n (type_at n) (found n m f x) vs) (g le))))
 
 pub shared_first : (v : Bool) (n m j : ℕ) (front names : List Ident) (ts us vs : List Symbol) (ty : TypeExpr) (xs : List ParamExpr) (rest : List Symbol) → IsNames ts names us → starts begins_type us ≡ true → Agrees n m (sized n m ty) vs (type_at n us) → m ≤ j
     → (m ≤ n → Agrees n j (sized n j xs) rest (params_end true v n (type_at n) (found n m false (param (front ++ names) false ty (head_start (front ++ names)))) vs)) → Agrees n j (sized n j xs) rest (params_from v n (type_at n) front ts)

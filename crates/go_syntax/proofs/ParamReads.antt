@@ -7,15 +7,16 @@ use Rattle.go_syntax.specs.declared.params.Param.{Param}
 use Rattle.go_syntax.specs.declared.tree.ParamExpr.{ParamExpr}
 use Rattle.go_syntax.specs.declared.tree.SigExpr.{SigExpr}
 use Rattle.go_syntax.specs.declared.tree.TypeExpr.{TypeExpr}
-use Rattle.go_syntax.specs.Reading.{Reply, ◌>>=◌, unexpected, too_deep, past, choose, peek, starts, begins_type, is_comma, is_ellipsis, is_open_paren, start_of, placed, Fit, with_fit}
-use Rattle.go_syntax.specs.Names.{plain, IsTypeName, IsNames, one, more, ident_at, dotted, names_at}
+use Rattle.go_syntax.specs.Reading.{Reply, ◌>>=◌, unexpected, too_deep, past, choose, peek, starts, begins_type, is_comma, is_ellipsis, is_open_paren, is_open_bracket, start_of, placed, Fit, with_fit}
+use Rattle.go_syntax.specs.Names.{plain, IsNames, one, more, ident_at, names_at}
 use Rattle.go_syntax.specs.Grammar as g
 use Rattle.go_syntax.specs.Grammar.{named, param, signature, IsType, IsParam, IsParams}
-use Rattle.go_syntax.specs.Params.{item, params, param_type, type_param, unnamed_param, lone_param, more_params, first_param, named_param, param_at, params_row, params_end, bare, shows_types, after_bare, shows_type, types_by, names_by, named_by, after_ident, params_from, result_list, result_type, no_results, results_by, sig_by, sig_at}
+use Rattle.go_syntax.specs.Params.{item, params, param_type, type_param, unnamed_param, lone_param, more_params, first_param, named_param, param_at, params_row, params_end, bare, shows_types, after_bare, shows_type, types_by, names_by, named_by, array_or_instance, name_or_type, after_ident, params_from, result_list, result_type, no_results, results_by, sig_by, sig_at}
 use Rattle.go_syntax.proofs.Viable.{next_is, ends_so, ReadsAt, Sample, Behind, Past, After, done_reads, refuse_next, refuse_end, like_reads, as_reads, cons_reads, choose_reads, peek_reads, stuck_reads, deep_reads, bind_reads, value_reads, only_reads, starts_same}
+use Rattle.go_syntax.proofs.EitherReads.{either_reads}
 use Rattle.go_syntax.proofs.Marks.{comma, ellipsis, open_paren, close_paren}
-use Rattle.go_syntax.proofs.NameReads.{IsIdent, any_ident, ident_reads, dotted_reads, names_reads, through_value}
-use Rattle.go_syntax.proofs.Standing.{TypeAt, ParamAt, ParamsAt, SigAt, Placed, name_stands, no_type_here, no_type_of, no_param, placed_reads}
+use Rattle.go_syntax.proofs.NameReads.{IsIdent, any_ident, ident_reads, names_reads, through_value}
+use Rattle.go_syntax.proofs.Standing.{Begun, NamedAt, TypeAt, ParamAt, ParamsAt, SigAt, Placed, name_stands, no_type_here, no_type_of, no_param, placed_reads}
 use Rattle.go_syntax.proofs.Rows.{IsSeries, series_reads, end_reads}
 
 -- what reads the types inside
@@ -112,7 +113,7 @@ params_series w v n = record {
 pub row_reads : (w v : Bool) (n : ℕ) (inner : List Symbol → Reply (Fit TypeExpr)) → ReadsTypes inner → (ts : List Symbol) → ReadsAt (ParamsAt w v) (params_row w v n inner) ts (params_row w v n inner ts)
 row_reads w v n inner h ts = series_reads (params n) (ParamAt w v) (ParamsAt w v) (params_series w v n) (param_at w v inner) (no_param w v) (param_reads w v inner h) ts
 
-rest_reads : (w v : Bool) (n : ℕ) (inner : List Symbol → Reply (Fit TypeExpr)) → ReadsTypes inner → (x : Param) (ts : List Symbol)
+pub rest_reads : (w v : Bool) (n : ℕ) (inner : List Symbol → Reply (Fit TypeExpr)) → ReadsTypes inner → (x : Param) (ts : List Symbol)
     → ReadsAt (After (ParamAt w v) (ParamsAt w v) x) (params_end w v n inner x) ts (params_end w v n inner x ts)
 rest_reads w v n inner h x ts = end_reads (params n) (ParamAt w v) (ParamsAt w v) (params_series w v n) (params_row w v n inner) x ts (λ vs less. row_reads w v n inner h vs)
 
@@ -176,33 +177,33 @@ after_reads v (suc n) inner h (i ∷ names) ts = bare_row v (suc n) n inner h (i
 abbrev OpenAt : Bool → List Ident → Ident → List Symbol → Fit (List ParamExpr) → List Symbol → Type 0
 OpenAt v names i = Behind (t.Ident i) (FromAt v names)
 
--- a type's name stands before these tokens, and then the list ends
-ends_types : (v : Bool) (names : List Ident) (i : Ident) (ty : TypeExpr) (us ws : List Symbol) (c : ℕ) (tail : List Symbol) → Bares names (t.Ident i ∷ us) ws → IsType 1 (t.Ident i ∷ us) ty (t.CloseParen c ∷ tail)
+-- a type that begins with the identifier stands before these tokens, and then the list ends
+ends_types : (v : Bool) (names : List Ident) (i : Ident) (m : ℕ) (ty : TypeExpr) (us ws : List Symbol) (c : ℕ) (tail : List Symbol) → Bares names (t.Ident i ∷ us) ws → IsType m (t.Ident i ∷ us) ty (t.CloseParen c ∷ tail)
     → TypesAt v ws (map bare names ++ param [] false ty i.start ∷ []) tail
-ends_types v names i ty us ws c tail b w =
-    bares_types v names (t.Ident i ∷ us) ws (param [] false ty i.start ∷ []) tail b (1, g.last_param false v false 1 c (t.Ident i ∷ us) (param [] false ty i.start) tail (g.unnamed v 1 (t.Ident i ∷ us) ty (t.CloseParen c ∷ tail) w))
+ends_types v names i m ty us ws c tail b w =
+    bares_types v names (t.Ident i ∷ us) ws (param [] false ty i.start ∷ []) tail b (m, g.last_param false v false m c (t.Ident i ∷ us) (param [] false ty i.start) tail (g.unnamed v m (t.Ident i ∷ us) ty (t.CloseParen c ∷ tail) w))
 
-types_reads : (v : Bool) (n : ℕ) (inner : List Symbol → Reply (Fit TypeExpr)) → ReadsTypes inner → (names : List Ident) (i : Ident) (ts : List Symbol) → ReadsAt (OpenAt v names i) (types_by v n inner names i) ts (types_by v n inner names i ts)
-types_reads v zero inner h names i ts =
+types_reads : (v : Bool) (n : ℕ) (inner : List Symbol → Reply (Fit TypeExpr)) → ReadsTypes inner → Begun n inner → (names : List Ident) (i : Ident) (ts : List Symbol) → ReadsAt (OpenAt v names i) (types_by v n inner names i) ts (types_by v n inner names i ts)
+types_reads v zero inner h d names i ts =
     deep_reads (OpenAt v names i) ts (record {
       tokens = t.CloseParen 0 ∷ [];
       made = (map bare names ++ param [] false (named (plain i)) i.start ∷ [], 0);
-      stands = λ tail ws b. let q = ends_types v names i (named (plain i)) (t.CloseParen 0 ∷ tail) ws 0 tail b (name_stands i (t.CloseParen 0 ∷ tail)) in (false, q.0, q.1);
+      stands = λ tail ws b. let q = ends_types v names i 1 (named (plain i)) (t.CloseParen 0 ∷ tail) ws 0 tail b (name_stands i (t.CloseParen 0 ∷ tail)) in (false, q.0, q.1);
     })
-types_reads v (suc n) inner h names i ts =
-    bind_reads (Behind (t.Ident i) IsTypeName) (OpenAt v names i) (dotted i) (λ x us. with_fit (map bare names, n) (params_end false v (suc n) inner (item [] false (named x, n) i.start) us)) ts
-    (λ x. record {
+types_reads v (suc n) inner h d names i ts =
+    bind_reads (Behind (t.Ident i) NamedAt) (OpenAt v names i) (λ r. inner (t.Ident i ∷ r)) (λ ty us. with_fit (map bare names, n) (params_end false v (suc n) inner (item [] false ty i.start) us)) ts
+    (λ ty. record {
       tokens = t.CloseParen 0 ∷ [];
-      made = (map bare names ++ param [] false (named x) i.start ∷ [], 0);
-      stands = λ tail us w ws b. let q = ends_types v names i (named x) us ws 0 tail b (g.name (t.Ident i ∷ us) x (t.CloseParen 0 ∷ tail) w) in (false, q.0, q.1);
+      made = (map bare names ++ param [] false ty.0 i.start ∷ [], 0);
+      stands = λ tail us w ws b. let q = ends_types v names i w.0 ty.0 us ws 0 tail b (g.name w.0 (t.Ident i ∷ us) ty.0 (t.CloseParen 0 ∷ tail) w.1) in (false, q.0, q.1);
     })
-    (λ x us o. value_reads (After (ParamAt false v) (ParamsAt false v) (item [] false (named x, n) i.start)) (After (Behind (t.Ident i) IsTypeName) (OpenAt v names i) x)
-    (params_end false v (suc n) inner (item [] false (named x, n) i.start)) (λ xs. (map bare names ++ xs.0, min n xs.1)) us
+    (λ ty us o. value_reads (After (ParamAt false v) (ParamsAt false v) (item [] false ty i.start)) (After (Behind (t.Ident i) NamedAt) (OpenAt v names i) ty)
+    (params_end false v (suc n) inner (item [] false ty i.start)) (λ xs. (map bare names ++ xs.0, min n xs.1)) us
     (λ vs xs rest q us' w ws b.
-    let p = q (t.Ident i ∷ us') (1, g.unnamed v 1 (t.Ident i ∷ us') (named x) vs (g.name (t.Ident i ∷ us') x vs w)) in
+    let p = q (t.Ident i ∷ us') (w.0, g.unnamed v w.0 (t.Ident i ∷ us') ty.0 vs (g.name w.0 (t.Ident i ∷ us') ty.0 vs w.1)) in
     let r = bares_types v names (t.Ident i ∷ us') ws xs.0 rest b p in (false, r.0, r.1))
-    (params_end false v (suc n) inner (item [] false (named x, n) i.start) us) (rest_reads false v (suc n) inner h (item [] false (named x, n) i.start) us))
-    (dotted i ts) (dotted_reads i ts)
+    (params_end false v (suc n) inner (item [] false ty i.start) us) (rest_reads false v (suc n) inner h (item [] false ty i.start) us))
+    (inner (t.Ident i ∷ ts)) (d.ident i ts (λ (e : suc n ≡ 0). absurd cc))
 
 -- a parameter whose last name is i
 abbrev NamesAt : Bool → List Ident → Ident → List Symbol → Param → List Symbol → Type 0
@@ -226,8 +227,12 @@ named_by_reads v n inner h names i ts =
     (λ vs xs rest q us' w ws b. let p = q ws (w ws b) in (true, p.0, p.1)) (params_end true v n inner x us) (rest_reads true v n inner h x us))
     (names_by v inner names i ts) (names_param v inner h names i ts)
 
-ident_after : (v : Bool) (n : ℕ) (inner : List Symbol → Reply (Fit TypeExpr)) → ReadsTypes inner → (names : List Ident) (i : Ident) (ts : List Symbol) → ReadsAt (OpenAt v names i) (after_ident v n inner names i) ts (after_ident v n inner names i ts)
-ident_after v n inner h names i ts = peek_reads (OpenAt v names i) shows_type (types_by v n inner names i) (named_by v n inner names i) ts (λ s. types_reads v n inner h names i ts) (λ s. named_by_reads v n inner h names i ts)
+ident_after : (v : Bool) (n : ℕ) (inner : List Symbol → Reply (Fit TypeExpr)) → ReadsTypes inner → Begun n inner → (names : List Ident) (i : Ident) (ts : List Symbol) → ReadsAt (OpenAt v names i) (after_ident v n inner names i) ts (after_ident v n inner names i ts)
+ident_after v n inner h d names i ts =
+    peek_reads (OpenAt v names i) shows_type (types_by v n inner names i) (name_or_type v n inner names i) ts (λ s. types_reads v n inner h d names i ts)
+    (λ s. peek_reads (OpenAt v names i) is_open_bracket (array_or_instance v n inner names i) (named_by v n inner names i) ts
+    (λ s'. either_reads (OpenAt v names i) (named_by v n inner names i) (types_by v n inner names i) ts (named_by_reads v n inner h names i ts) (λ us. types_reads v n inner h d names i us))
+    (λ s'. named_by_reads v n inner h names i ts))
 
 -- after an identifier
 abbrev pub from_ident : Bool → ℕ → (List Symbol → Reply (Fit TypeExpr)) → List Ident → Ident → List Symbol → Reply (Fit (List ParamExpr))
@@ -238,24 +243,24 @@ from_is v n inner names i [] = refl
 from_is v n inner names i (t.Comma c ∷ r) = refl
 from_is v n inner names i (k ∷ r) = refl
 
-from_reads : (v : Bool) (n : ℕ) (inner : List Symbol → Reply (Fit TypeExpr)) → ReadsTypes inner → (names : List Ident) (ts : List Symbol) → ReadsAt (FromAt v names) (params_from v n inner names) ts (params_from v n inner names ts)
-from_reads v n inner h names [] =
+from_reads : (v : Bool) (n : ℕ) (inner : List Symbol → Reply (Fit TypeExpr)) → ReadsTypes inner → Begun n inner → (names : List Ident) (ts : List Symbol) → ReadsAt (FromAt v names) (params_from v n inner names) ts (params_from v n inner names ts)
+from_reads v n inner h d names [] =
     like_reads (FromAt v names) (params_from v n inner names) (after_bare v n inner names) [] (after_bare v n inner names []) (ends_so (λ r. params_from v n inner names r ≡ after_bare v n inner names r) refl) (after_reads v n inner h names [])
-from_reads v n inner h names (t.Ident i ∷ []) =
+from_reads v n inner h d names (t.Ident i ∷ []) =
     cons_reads (FromAt v names) (params_from v n inner names) (from_ident v n inner names i) (t.Ident i) [] (after_ident v n inner names i []) (from_is v n inner names i)
-    (like_reads (OpenAt v names i) (from_ident v n inner names i) (after_ident v n inner names i) [] (after_ident v n inner names i []) (ends_so (λ r. from_ident v n inner names i r ≡ after_ident v n inner names i r) refl) (ident_after v n inner h names i []))
-from_reads v n inner h names (t.Ident i ∷ t.Comma c ∷ ts) =
+    (like_reads (OpenAt v names i) (from_ident v n inner names i) (after_ident v n inner names i) [] (after_ident v n inner names i []) (ends_so (λ r. from_ident v n inner names i r ≡ after_ident v n inner names i r) refl) (ident_after v n inner h d names i []))
+from_reads v n inner h d names (t.Ident i ∷ t.Comma c ∷ ts) =
     cons_reads (FromAt v names) (params_from v n inner names) (from_ident v n inner names i) (t.Ident i) (t.Comma c ∷ ts) (params_from v n inner (names ++ i ∷ []) ts) (from_is v n inner names i)
     (cons_reads (OpenAt v names i) (from_ident v n inner names i) (params_from v n inner (names ++ i ∷ [])) (t.Comma c) ts (params_from v n inner (names ++ i ∷ []) ts) (λ r. refl)
-    (as_reads (FromAt v (names ++ i ∷ [])) (Behind (t.Comma c) (OpenAt v names i)) (params_from v n inner (names ++ i ∷ [])) ts (params_from v n inner (names ++ i ∷ []) ts) (λ us xs rest q ws b. q ws (bares_more names i c us ws b)) (from_reads v n inner h (names ++ i ∷ []) ts)))
-from_reads v n inner h names (t.Ident i ∷ k ∷ ts) =
+    (as_reads (FromAt v (names ++ i ∷ [])) (Behind (t.Comma c) (OpenAt v names i)) (params_from v n inner (names ++ i ∷ [])) ts (params_from v n inner (names ++ i ∷ []) ts) (λ us xs rest q ws b. q ws (bares_more names i c us ws b)) (from_reads v n inner h d (names ++ i ∷ []) ts)))
+from_reads v n inner h d names (t.Ident i ∷ k ∷ ts) =
     cons_reads (FromAt v names) (params_from v n inner names) (from_ident v n inner names i) (t.Ident i) (k ∷ ts) (after_ident v n inner names i (k ∷ ts)) (from_is v n inner names i)
-    (like_reads (OpenAt v names i) (from_ident v n inner names i) (after_ident v n inner names i) (k ∷ ts) (after_ident v n inner names i (k ∷ ts)) (next_is (λ r. from_ident v n inner names i r ≡ after_ident v n inner names i r) k (λ r. refl)) (ident_after v n inner h names i (k ∷ ts)))
-from_reads v n inner h names (k ∷ ts) =
+    (like_reads (OpenAt v names i) (from_ident v n inner names i) (after_ident v n inner names i) (k ∷ ts) (after_ident v n inner names i (k ∷ ts)) (next_is (λ r. from_ident v n inner names i r ≡ after_ident v n inner names i r) k (λ r. refl)) (ident_after v n inner h d names i (k ∷ ts)))
+from_reads v n inner h d names (k ∷ ts) =
     like_reads (FromAt v names) (params_from v n inner names) (after_bare v n inner names) (k ∷ ts) (after_bare v n inner names (k ∷ ts)) (next_is (λ r. params_from v n inner names r ≡ after_bare v n inner names r) k (λ r. refl)) (after_reads v n inner h names (k ∷ ts))
 
-pub list_reads : (v : Bool) (n : ℕ) (inner : List Symbol → Reply (Fit TypeExpr)) → ReadsTypes inner → (ts : List Symbol) → ReadsAt (ListAt v) (params_from v n inner []) ts (params_from v n inner [] ts)
-list_reads v n inner h ts = as_reads (FromAt v []) (ListAt v) (params_from v n inner []) ts (params_from v n inner [] ts) (λ us xs rest q. q us refl) (from_reads v n inner h [] ts)
+pub list_reads : (v : Bool) (n : ℕ) (inner : List Symbol → Reply (Fit TypeExpr)) → ReadsTypes inner → Begun n inner → (ts : List Symbol) → ReadsAt (ListAt v) (params_from v n inner []) ts (params_from v n inner [] ts)
+list_reads v n inner h d ts = as_reads (FromAt v []) (ListAt v) (params_from v n inner []) ts (params_from v n inner [] ts) (λ us xs rest q. q us refl) (from_reads v n inner h d [] ts)
 
 -- ---- signatures
 
@@ -278,27 +283,27 @@ bare_result inner h ts e =
 abbrev SigRest : ℕ → Fit (List ParamExpr) → List Symbol → Fit SigExpr → List Symbol → Type 0
 SigRest at ps = After (ListAt true) (Behind (t.OpenParen at) SigAt) ps
 
-results_reads : (n : ℕ) (inner : List Symbol → Reply (Fit TypeExpr)) → ReadsTypes inner → (at : ℕ) (ps : Fit (List ParamExpr)) (ts : List Symbol) → ReadsAt (SigRest at ps) (results_by n inner at ps) ts (results_by n inner at ps ts)
-results_reads n inner h at ps ts =
+results_reads : (n : ℕ) (inner : List Symbol → Reply (Fit TypeExpr)) → ReadsTypes inner → Begun n inner → (at : ℕ) (ps : Fit (List ParamExpr)) (ts : List Symbol) → ReadsAt (SigRest at ps) (results_by n inner at ps) ts (results_by n inner at ps ts)
+results_reads n inner h d at ps ts =
     choose_reads is_open_paren (SigRest at ps) open_paren (result_list n inner at ps) (λ us. peek begins_type us (result_type inner at ps us) (no_results at ps us)) ts
     (λ us. value_reads (ListAt false) (Past open_paren (SigRest at ps)) (params_from false n inner []) (λ rs. (signature ps.0 rs.0 at, min ps.1 rs.1)) us
-    (λ vs rs rest r o ws p. (max p.1 r.1, g.results p.0 r.0 p.1 r.1 at o ws vs ps.0 rs.0 rest p.2 r.2)) (params_from false n inner [] us) (list_reads false n inner h us))
+    (λ vs rs rest r o ws p. (max p.1 r.1, g.results p.0 r.0 p.1 r.1 at o ws vs ps.0 rs.0 rest p.2 r.2)) (params_from false n inner [] us) (list_reads false n inner h d us))
     (λ e. peek_reads (SigRest at ps) begins_type (result_type inner at ps) (no_results at ps) ts
     (λ s. value_reads BareResultAt (SigRest at ps) (type_param inner) (λ x. (signature ps.0 (x.expr ∷ []) at, min ps.1 x.fit)) ts
     (λ us x rest r ws p. rw r.3 (max p.1 r.0, g.result p.0 p.1 r.0 at ws us ps.0 r.1 rest p.2 r.4 r.2)) (type_param inner ts) (bare_result inner h ts e))
     (λ s. done_reads (SigRest at ps) (no_results at ps) ts (signature ps.0 [] at, ps.1) (λ tail us p. (p.1, g.no_result p.0 p.1 at us ps.0 tail p.2)) (λ r d. refl)))
 
-sig_reads_by : (n : ℕ) (inner : List Symbol → Reply (Fit TypeExpr)) → ReadsTypes inner → (at : ℕ) (ts : List Symbol) → ReadsAt (Behind (t.OpenParen at) SigAt) (sig_by n inner at) ts (sig_by n inner at ts)
-sig_reads_by n inner h at ts =
+sig_reads_by : (n : ℕ) (inner : List Symbol → Reply (Fit TypeExpr)) → ReadsTypes inner → Begun n inner → (at : ℕ) (ts : List Symbol) → ReadsAt (Behind (t.OpenParen at) SigAt) (sig_by n inner at) ts (sig_by n inner at ts)
+sig_reads_by n inner h d at ts =
     bind_reads (ListAt true) (Behind (t.OpenParen at) SigAt) (params_from true n inner []) (results_by n inner at) ts
     (λ ps. record { tokens = []; made = (signature ps.0 [] at, 0); stands = λ tail us p. (p.1, g.no_result p.0 p.1 at us ps.0 tail p.2) })
-    (λ ps us o. results_reads n inner h at ps us)
-    (params_from true n inner [] ts) (list_reads true n inner h ts)
+    (λ ps us o. results_reads n inner h d at ps us)
+    (params_from true n inner [] ts) (list_reads true n inner h d ts)
 
 pub some_sig : Sample SigAt
 some_sig = record { tokens = t.OpenParen 0 ∷ t.CloseParen 0 ∷ []; made = (signature [] [] 0, 0); stands = λ tail. (0, g.no_result true 0 0 (t.CloseParen 0 ∷ tail) [] tail (g.no_param true true 0 tail)) }
 
-pub sig_reads : (n : ℕ) (inner : List Symbol → Reply (Fit TypeExpr)) → ReadsTypes inner → (ts : List Symbol) → ReadsAt SigAt (sig_at n inner) ts (sig_at n inner ts)
-sig_reads n inner h [] = refuse_end SigAt (sig_at n inner) some_sig refl
-sig_reads n inner h (t.OpenParen at ∷ ts) = cons_reads SigAt (sig_at n inner) (sig_by n inner at) (t.OpenParen at) ts (sig_by n inner at ts) (λ r. refl) (sig_reads_by n inner h at ts)
-sig_reads n inner h (k ∷ ts) = refuse_next SigAt (sig_at n inner) k ts some_sig (λ r. refl)
+pub sig_reads : (n : ℕ) (inner : List Symbol → Reply (Fit TypeExpr)) → ReadsTypes inner → Begun n inner → (ts : List Symbol) → ReadsAt SigAt (sig_at n inner) ts (sig_at n inner ts)
+sig_reads n inner h d [] = refuse_end SigAt (sig_at n inner) some_sig refl
+sig_reads n inner h d (t.OpenParen at ∷ ts) = cons_reads SigAt (sig_at n inner) (sig_by n inner at) (t.OpenParen at) ts (sig_by n inner at ts) (λ r. refl) (sig_reads_by n inner h d at ts)
+sig_reads n inner h d (k ∷ ts) = refuse_next SigAt (sig_at n inner) k ts some_sig (λ r. refl)

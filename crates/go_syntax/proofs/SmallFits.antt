@@ -1,16 +1,17 @@
 -- What is left over in a series is no more than was left before it.
 use Rattle.std.proofs.Common.{◌≡◌, ℕ, ◌≤◌, min, Bool, false, List, [], Ok, Err, refl, ap, subst, arith}
 use Rattle.go_syntax.specs.declared.symbols.Symbol.{Symbol}
-use Rattle.go_syntax.specs.Reading.{Reply, is_semicolon, is_close_brace, series, Fit, fitting, with_fit}
+use Rattle.go_syntax.specs.Reading.{Reply, is_semicolon, is_comma, is_close_brace, is_close_bracket, series, Fit, fitting, with_fit}
+use Rattle.go_syntax.specs.declared.tree.TypeExpr.{TypeExpr}
 use Rattle.go_syntax.specs.Types.{field_by, fields_at, type_at, lower_at}
-use Rattle.go_syntax.specs.Elements.{elem_at, elems_at}
+use Rattle.go_syntax.specs.Elements.{type_list, elem_at, elems_at}
 use Rattle.go_syntax.proofs.Viable.{ReadsAt, Kind}
-use Rattle.go_syntax.proofs.Marks.{semicolon, close_brace}
+use Rattle.go_syntax.proofs.Marks.{semicolon, comma, close_brace, close_bracket}
 use Rattle.go_syntax.proofs.Rows.{IsSeries, series_reads}
-use Rattle.go_syntax.proofs.Standing.{FieldAt, ElemAt, no_field, no_elem_here}
+use Rattle.go_syntax.proofs.Standing.{TypeAt, FieldAt, ElemAt, no_type_here, no_field, no_elem_here}
 use Rattle.go_syntax.proofs.FieldReads.{field_reads}
 use Rattle.go_syntax.proofs.ElemReads.{elem_reads}
-use Rattle.go_syntax.proofs.TypeReads.{type_reads, lower_reads}
+use Rattle.go_syntax.proofs.TypeReads.{type_begun, type_reads, lower_reads}
 
 -- what a loop keeps: no more is left over than n, and what was read with what is still read is all of it
 pub record Keeps {Y : Type 0} (n k : ℕ) (read total : Reply Y) : Type 0 where
@@ -44,9 +45,12 @@ with_none n (Err f) h = refl
 pub fields_start : (n : ℕ) (ts : List Symbol) → with_fit ([], n) (fields_at n (type_at n) ts) ≡ fields_at n (type_at n) ts
 fields_start n ts =
     with_none n (fields_at n (type_at n) ts)
-    (small_fit n is_semicolon is_close_brace semicolon close_brace (λ x. false) (λ x. x.0) (λ x. x.1) FieldAt (field_by n (type_at n)) (λ x us w. no_field w.0 x.0 us w.1) (field_reads n (type_at n) (type_reads n)) ts)
+    (small_fit n is_semicolon is_close_brace semicolon close_brace (λ x. false) (λ x. x.0) (λ x. x.1) FieldAt (field_by n (type_at n)) (λ x us w. no_field w.0 x.0 us w.1) (field_reads n (type_at n) (type_reads n) (type_begun n)) ts)
 
 pub elems_start : (n : ℕ) (ts : List Symbol) → with_fit ([], n) (elems_at n (type_at n) (lower_at n) ts) ≡ elems_at n (type_at n) (lower_at n) ts
 elems_start n ts =
     with_none n (elems_at n (type_at n) (lower_at n) ts)
-    (small_fit n is_semicolon is_close_brace semicolon close_brace (λ x. false) (λ x. x.0) (λ x. x.1) ElemAt (elem_at n (type_at n) (lower_at n)) no_elem_here (elem_reads n (type_at n) (lower_at n) (type_reads n) (lower_reads n)) ts)
+    (small_fit n is_semicolon is_close_brace semicolon close_brace (λ x. false) (λ x. x.0) (λ x. x.1) ElemAt (elem_at n (type_at n) (lower_at n)) no_elem_here (elem_reads n (type_at n) (lower_at n) (type_reads n) (type_begun n) (lower_reads n)) ts)
+
+pub types_small : (n : ℕ) (ts : List Symbol) (z : Fit (List TypeExpr) × List Symbol) → series (type_list n) (type_at n) ts ≡ Ok z → z.0.1 ≤ n
+types_small n ts z e = small_fit n is_comma is_close_bracket comma close_bracket (λ x. false) (λ x. x.0) (λ x. x.1) TypeAt (type_at n) no_type_here (type_reads n) ts z e

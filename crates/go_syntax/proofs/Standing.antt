@@ -13,12 +13,19 @@ use Rattle.go_syntax.specs.declared.tree.TypeExpr.{TypeExpr}
 use Rattle.go_syntax.specs.Reading.{Reply, ◌>>=◌, start_of, placed, Fit}
 use Rattle.go_syntax.specs.Names.{plain, own, none}
 use Rattle.go_syntax.specs.Grammar as g
-use Rattle.go_syntax.specs.Grammar.{named, field, param, signature, IsType, IsField, IsFields, IsParam, IsParams, IsSig, IsTerm, IsTerms, IsUnion, IsElem, IsElems}
-use Rattle.go_syntax.proofs.Viable.{ReadsAt, Sample}
+use Rattle.go_syntax.specs.Grammar.{instance, named, field, param, signature, IsType, IsNamed, IsArgs, IsTypes, IsField, IsFields, IsParam, IsParams, IsSig, IsTerm, IsTerms, IsUnion, IsElem, IsElems}
+use Rattle.go_syntax.proofs.Viable.{ReadsAt, Sample, Behind}
 use Rattle.go_syntax.proofs.NameReads.{any_ident, no_names, no_type_name}
 
 abbrev pub TypeAt : List Symbol → Fit TypeExpr → List Symbol → Type 0
 TypeAt ts x rest = (m : ℕ) × IsType m ts x.0 rest
+
+-- arguments of a type, after the bracket
+abbrev pub TypesAt : List Symbol → Fit (List TypeExpr) → List Symbol → Type 0
+TypesAt ts xs rest = (m : ℕ) × IsTypes m ts xs.0 rest
+
+abbrev pub NamedAt : List Symbol → Fit TypeExpr → List Symbol → Type 0
+NamedAt ts x rest = (m : ℕ) × IsNamed m ts x.0 rest
 
 abbrev pub FieldAt : List Symbol → Fit FieldExpr → List Symbol → Type 0
 FieldAt ts x rest = (m : ℕ) × IsField m ts x.0 rest
@@ -52,8 +59,11 @@ ElemsAt ts xs rest = (m : ℕ) × IsElems m ts xs.0 rest
 
 -- ---- the least
 
+pub plain_stands : (i : Ident) (tail : List Symbol) → IsNamed 1 (t.Ident i ∷ tail) (named (plain i)) tail
+plain_stands i tail = g.by_name 0 (t.Ident i ∷ tail) (plain i) tail [] tail (own i tail) (g.no_args tail)
+
 pub name_stands : (i : Ident) (tail : List Symbol) → IsType 1 (t.Ident i ∷ tail) (named (plain i)) tail
-name_stands i tail = g.name (t.Ident i ∷ tail) (plain i) tail (own i tail)
+name_stands i tail = g.name 1 (t.Ident i ∷ tail) (named (plain i)) tail (plain_stands i tail)
 
 abbrev pub some_type : Sample TypeAt
 some_type = record { tokens = t.Ident any_ident ∷ []; made = (named (plain any_ident), 0); stands = λ tail. (1, name_stands any_ident tail) }
@@ -62,20 +72,23 @@ abbrev pub some_field : Sample FieldAt
 some_field = record {
   tokens = t.Ident any_ident ∷ [];
   made = (field [] (named (plain any_ident)) None 0, 0);
-  stands = λ tail. (1, g.embedded (plain any_ident) (t.Ident any_ident ∷ tail) tail None tail (own any_ident tail) (none tail));
+  stands = λ tail. (1, g.embedded 1 (t.Ident any_ident ∷ tail) (named (plain any_ident)) tail None tail (plain_stands any_ident tail) (none tail));
 }
 
 -- ---- none of them stands of no tokens
 
+pub no_named : (m : ℕ) (ty : TypeExpr) (us : List Symbol) → IsNamed m [] ty us → ⊥
+no_named m ty us (g.by_name n ts x vs args r a b) = no_type_name x vs a
+
 pub no_type_of : (m : ℕ) (ty : TypeExpr) (us : List Symbol) → IsType m [] ty us → ⊥
-no_type_of m ty us (g.name ts x r a) = no_type_name x us a
+no_type_of m ty us (g.name n ts z r a) = no_named n ty us a
 
 pub no_type_here : (x : Fit TypeExpr) (us : List Symbol) → TypeAt [] x us → ⊥
 no_type_here x us w = no_type_of w.0 x.0 us w.1
 
 pub no_field : (m : ℕ) (f : FieldExpr) (us : List Symbol) → IsField m [] f us → ⊥
 no_field m f us (g.shared n i names ts vs ty ws tag rest a b c) = no_names (i ∷ names) vs a
-no_field m f us (g.embedded x ts vs tag rest a b) = no_type_name x vs a
+no_field m f us (g.embedded n ts ty vs tag rest a b) = no_named n ty vs a
 
 no_param_of : (w v f : Bool) (m : ℕ) (x : ParamExpr) (us : List Symbol) → IsParam w v f m [] x us → ⊥
 no_param_of w v f m x us (g.unnamed v' n ts ty rest a) = no_type_of n ty us a
@@ -139,3 +152,8 @@ placed_reads F p ts never (Err f) h =
       made = (h.made, start_of ((h.front ++ h.more) ++ []));
       completes = λ tail. (h.completes tail, start_front F h.made (h.front ++ h.more) never whole [] tail ∙ ap start_of (append_assoc h.front h.more tail));
     }
+
+-- what a reader of types does after a first token, where a node is left for the type
+pub record Begun (n : ℕ) (inner : List Symbol → Reply (Fit TypeExpr)) : Type 0 where
+  pub ident : (i : Ident) (ts : List Symbol) → (n ≡ 0 → ⊥) → ReadsAt (Behind (t.Ident i) NamedAt) (λ us. inner (t.Ident i ∷ us)) ts (inner (t.Ident i ∷ ts))
+  pub star : (at : ℕ) (ts : List Symbol) → (n ≡ 0 → ⊥) → ReadsAt (Behind (t.Star at) TypeAt) (λ us. inner (t.Star at ∷ us)) ts (inner (t.Star at ∷ ts))

@@ -4,7 +4,7 @@ use Rattle.std.proofs.Common.{◌≡◌, ℕ, ◌<◌, Bool, true, false, if◌t
 use Rattle.go_syntax.specs.declared.symbols.Symbol.{Symbol}
 use Rattle.go_syntax.specs.declared.faults.Fault.{Fault}
 use Rattle.go_syntax.specs.declared.faults.Fault.TheVariants.{Unexpected, Deep, DotImport, Call}
-use Rattle.go_syntax.specs.Reading.{Reply, ◌>>=◌, unexpected, too_deep, past, choose, starts, peek}
+use Rattle.go_syntax.specs.Reading.{Reply, ◌>>=◌, symbol_start, start_of, told_at, from_start, unexpected, too_deep, past, choose, starts, peek}
 
 abbrev pub ahead : List Symbol → Option Symbol
 ahead [] = None
@@ -13,7 +13,7 @@ ahead (k ∷ ts) = Some k
 -- the same fault at another place
 abbrev pub moved : Fault → ℕ → Fault
 moved (Unexpected k) n = Unexpected n
-moved (Deep k) n = Deep n
+moved (Deep k began) n = Deep n began
 moved (DotImport k) n = DotImport n
 moved (Call k at) n = Call n at
 
@@ -53,6 +53,12 @@ pub ends_so : (P : List Symbol → Type 0) → P [] → (r : List Symbol) → No
 ends_so P h [] e = h
 ends_so P h (j ∷ r) e = absurd cc
 
+pub start_same : (ts r : List Symbol) → ahead ts ≡ ahead r → start_of ts ≡ start_of r
+start_same [] [] e = refl
+start_same [] (k ∷ r) e = absurd cc
+start_same (k ∷ ts) [] e = absurd cc
+start_same (k ∷ ts) (j ∷ r) e = let same : k ≡ j = cc in ap symbol_start same
+
 pub ahead_along : (front us r : List Symbol) → ahead us ≡ ahead r → ahead (front ++ us) ≡ ahead (front ++ r)
 ahead_along [] us r e = e
 ahead_along (k ∷ front) us r e = refl
@@ -77,8 +83,8 @@ pub refuse_end : {X : Type 0} (F : List Symbol → X → List Symbol → Type 0)
 refuse_end F p s e = refuse_reads F p [] _ s refl (ends_so (λ r. p r ≡ unexpected r) e)
 
 pub deep_next : {X : Type 0} (F : List Symbol → X → List Symbol → Type 0) (p : List Symbol → Reply X) (k : Symbol) (ts : List Symbol) → Sample F
-    → ((r : List Symbol) → p (k ∷ r) ≡ too_deep (k ∷ r)) → ReadNot F p (k ∷ ts) (Deep (length (k ∷ ts)))
-deep_next F p k ts s e = refuse_reads F p (k ∷ ts) _ s refl (next_is (λ r. p r ≡ too_deep r) k e)
+    → ((r : List Symbol) → p (k ∷ r) ≡ too_deep (k ∷ r)) → ReadNot F p (k ∷ ts) (Deep (length (k ∷ ts)) (symbol_start k))
+deep_next F p k ts s e = refuse_reads F p (k ∷ ts) _ s refl (next_is (λ r. p r ≡ Err (Deep (length r) (symbol_start k))) k e)
 
 -- ---- another reader, another relation
 
@@ -231,7 +237,48 @@ pub stuck_reads : {X : Type 0} (F : List Symbol → X → List Symbol → Type 0
 stuck_reads F ts s = refuse_reads F unexpected ts _ s refl (λ r e. refl)
 
 pub deep_reads : {X : Type 0} (F : List Symbol → X → List Symbol → Type 0) (ts : List Symbol) → Sample F → ReadsAt F too_deep ts (too_deep ts)
-deep_reads F ts s = refuse_reads F too_deep ts _ s refl (λ r e. refl)
+deep_reads F ts s = refuse_reads F too_deep ts _ s refl (λ r e. ap (λ (at : ℕ). Err (Deep (length r) at)) (sym (start_same ts r e)))
+
+-- ---- a path that is too long, told at the first token
+
+-- another reader that answers so at one place, whatever follows
+abbrev Tells : {X : Type 0} → (List Symbol → Reply X) → (List Symbol → Reply X) → List Symbol → ℕ → Type 0
+Tells {X} p other ts at = (front rest r : List Symbol) (reply : Reply X) → ts ≡ front ++ rest → ahead rest ≡ ahead r → p (front ++ r) ≡ reply → other (front ++ r) ≡ told_at at reply
+
+told_not : {X : Type 0} (F : List Symbol → X → List Symbol → Type 0) (p other : List Symbol → Reply X) (ts : List Symbol) (at : ℕ) → Tells p other ts at → (f g : Fault) → (h : ReadNot F p ts f) → g ≡ moved g (length h.rest)
+    → ((n : ℕ) → told_at {X = X} at (Err (moved f n)) ≡ Err (moved g n)) → ReadNot F other ts g
+told_not F p other ts at tells f g h place same = record {
+  front = h.front;
+  rest = h.rest;
+  split = h.split;
+  place = place;
+  stays = λ r e. tells h.front h.rest r (Err (moved f (length r))) h.split e (h.stays r e) ∙ same (length r);
+  more = h.more;
+  made = h.made;
+  completes = h.completes;
+}
+
+told_reads : {X : Type 0} (F : List Symbol → X → List Symbol → Type 0) (p other : List Symbol → Reply X) (ts : List Symbol) (at : ℕ) → Tells p other ts at → (reply : Reply X) → ReadsAt F p ts reply → ReadsAt F other ts (told_at at reply)
+told_reads F p other ts at tells (Ok z) h = record { front = h.front; split = h.split; stands = h.stands; stays = λ r e. tells h.front z.1 r (Ok (z.0, r)) h.split e (h.stays r e) }
+told_reads F p other ts at tells (Err (Unexpected k)) h = told_not F p other ts at tells (Unexpected k) (Unexpected k) h h.place (λ n. refl)
+told_reads F p other ts at tells (Err (Deep k began)) h =
+    let place : Deep k began ≡ Deep (length h.rest) began = h.place in
+    let e : k ≡ length h.rest = cc in
+    told_not F p other ts at tells (Deep k began) (Deep k at) h (ap (λ (n : ℕ). Deep n at) e) (λ n. refl)
+told_reads F p other ts at tells (Err (DotImport k)) h = told_not F p other ts at tells (DotImport k) (DotImport k) h h.place (λ n. refl)
+told_reads F p other ts at tells (Err (Call k c)) h = told_not F p other ts at tells (Call k c) (Call k c) h h.place (λ n. refl)
+
+abbrev pub told_by : {X : Type 0} → ℕ → (List Symbol → Reply X) → List Symbol → Reply X
+told_by at p us = told_at at (p us)
+
+pub told_by_reads : {X : Type 0} (F : List Symbol → X → List Symbol → Type 0) (p : List Symbol → Reply X) (ts : List Symbol) (at : ℕ) (reply : Reply X) → ReadsAt F p ts reply → ReadsAt F (told_by at p) ts (told_at at reply)
+told_by_reads F p ts at reply h = told_reads F p (told_by at p) ts at (λ front rest r reply' split e same. ap (told_at at) same) reply h
+
+pub from_start_reads : {X : Type 0} (F : List Symbol → X → List Symbol → Type 0) (p : List Symbol → Reply X) (ts : List Symbol) (reply : Reply X) → ReadsAt F p ts reply → ReadsAt F (from_start p) ts (told_at (start_of ts) reply)
+from_start_reads F p ts reply h =
+    told_reads F p (from_start p) ts (start_of ts)
+    (λ front rest r reply' split e same. ap (told_at (start_of (front ++ r))) same ∙ ap (λ (at : ℕ). told_at at reply') (sym (start_same ts (front ++ r) (ap ahead split ∙ ahead_along front rest r e))))
+    reply h
 
 pub starts_same : (is : Symbol → Bool) (ts r : List Symbol) → ahead ts ≡ ahead r → starts is ts ≡ starts is r
 starts_same is [] [] e = refl

@@ -12,7 +12,7 @@ use Rattle.go_syntax.specs.declared.expressions.Operand.{Operand}
 use Rattle.go_syntax.specs.Reading.{Reply, ◌>>=◌, past, choose, peek, is_comma, is_assign, begins_type, steps}
 use Rattle.go_syntax.specs.Names.{IsNames, ident_at, names_at, names_more}
 use Rattle.go_syntax.specs.Expressions.{IsExpr}
-use Rattle.go_syntax.specs.Operands.{expr_at}
+use Rattle.go_syntax.specs.Operands.{outer_expr}
 use Rattle.go_syntax.specs.Grammar.{IsType}
 use Rattle.go_syntax.specs.Types.{type_at}
 
@@ -59,7 +59,7 @@ abbrev pub exprs_end : (List Symbol → Reply (List Expr)) → Expr → List Sym
 exprs_end more x us = choose (past is_comma us) (exprs_more more x) (Ok (x ∷ [], us))
 
 abbrev pub exprs_step : ℕ → (List Symbol → Reply (List Expr)) → List Symbol → Reply (List Expr)
-exprs_step n more ts = expr_at n ts >>= λ x. exprs_end more (x.0.0).expr x.1
+exprs_step n more ts = outer_expr n ts >>= λ x. exprs_end more (x.0.0).expr x.1
 
 abbrev pub exprs_at : ℕ → List Symbol → Reply (List Expr)
 exprs_at n ts = steps (exprs_step n) ts

@@ -9,14 +9,31 @@ use Rattle.go_syntax.specs.declared.tree.ElemExpr.{ElemExpr}
 use Rattle.go_syntax.specs.declared.tree.ElemExpr.TheVariants as elem
 use Rattle.go_syntax.specs.declared.tree.TypeExpr.{TypeExpr}
 use Rattle.go_syntax.specs.declared.tree.TypeExpr.TheVariants as y
-use Rattle.go_syntax.specs.Reading.{Reply, ◌>>=◌, unexpected, too_deep, past, is_bar, is_tilde, is_open_paren, is_open_brace, is_close_brace, is_semicolon, choose, peek, series, chain, start_of, placed, Fit, fits}
+use Rattle.go_syntax.specs.Reading.{Reply, ◌>>=◌, unexpected, too_deep, past, is_bar, is_tilde, is_comma, is_open_paren, is_open_bracket, is_close_bracket, is_open_brace, is_close_brace, is_semicolon, choose, peek, Shape, series_item, series, chain, start_of, placed, Fit, fits}
 use Rattle.go_syntax.specs.Names.{ident_at, ident_or, dotted}
-use Rattle.go_syntax.specs.Grammar.{named, term}
+use Rattle.go_syntax.specs.declared.tree.NameExpr.{NameExpr}
+use Rattle.go_syntax.specs.Grammar.{named, instance, term}
 use Rattle.go_syntax.specs.Params.{sig_at}
 
--- the name of a type, after its first identifier, where n more nodes would fit
-abbrev pub name_by : ℕ → Ident → List Symbol → Reply (Fit TypeExpr)
-name_by n i ts = dotted i ts >>= λ x. Ok ((named x.0, n), x.1)
+-- ---- names of types
+
+abbrev pub type_list : ℕ → Shape (Fit TypeExpr) (Fit (List TypeExpr))
+type_list n = fits n is_comma is_close_bracket
+
+-- after the bracket: one argument at least
+abbrev pub types_at : ℕ → (List Symbol → Reply (Fit TypeExpr)) → List Symbol → Reply (Fit (List TypeExpr))
+types_at n inner ts = series_item (type_list n) inner (series (type_list n) inner) ts
+
+abbrev pub instance_by : ℕ → (List Symbol → Reply (Fit TypeExpr)) → NameExpr → List Symbol → Reply (Fit TypeExpr)
+instance_by n inner x ts = types_at n inner ts >>= λ args. Ok ((instance x args.0.0, args.0.1), args.1)
+
+-- after a type's name
+abbrev pub args_by : ℕ → (List Symbol → Reply (Fit TypeExpr)) → NameExpr → List Symbol → Reply (Fit TypeExpr)
+args_by n inner x ts = choose (past is_open_bracket ts) (instance_by n inner x) (Ok ((named x, n), ts))
+
+-- the name of a type with its arguments, after its first identifier, where n nodes are left for them
+abbrev pub name_by : ℕ → (List Symbol → Reply (Fit TypeExpr)) → Ident → List Symbol → Reply (Fit TypeExpr)
+name_by n inner i ts = dotted i ts >>= λ x. args_by n inner x.0 x.1
 
 -- ---- unions
 
@@ -65,14 +82,15 @@ method_by n inner i ts = sig_at n inner ts >>= λ s. Ok ((elem.Method i s.0.0 i.
 -- whether this token shows that the identifier before it is an embedded type
 abbrev pub shows_elem : Symbol → Bool
 shows_elem (t.Dot at) = true
+shows_elem (t.OpenBracket at) = true
 shows_elem (t.Bar at) = true
 shows_elem (t.Semicolon at) = true
 shows_elem (t.CloseBrace at) = true
 shows_elem _ = false
 
--- a union that begins with the name of a type, after its first identifier, where n more nodes would fit after the name
+-- a union that begins with the name of a type, after its first identifier, where n nodes are left for its arguments
 abbrev pub name_first : ℕ → (List Symbol → Reply (Fit TypeExpr)) → Ident → List Symbol → Reply (Fit TypeExpr)
-name_first n lower i ts = name_by n i ts >>= λ ty. after_type lower ty.0.0 ty.0.1 i.start ty.1
+name_first n lower i ts = name_by n lower i ts >>= λ ty. after_type lower ty.0.0 ty.0.1 i.start ty.1
 
 -- no node is left for the identifier before
 abbrev pub no_elem : List Symbol → Reply (Fit ElemExpr)

@@ -5,7 +5,7 @@ use Rattle.go_syntax.specs.declared.symbols.Symbol.TheVariants as t
 use Rattle.go_syntax.specs.declared.symbols.Ident.{Ident}
 use Rattle.go_syntax.specs.declared.tree.TParam.{TParam}
 use Rattle.go_syntax.specs.declared.tree.TypeExpr.{TypeExpr}
-use Rattle.go_syntax.specs.Reading.{Reply, ◌>>=◌, past, choose, starts, is_comma, is_open_bracket, is_close_bracket, Shape, series_item, series}
+use Rattle.go_syntax.specs.Reading.{Reply, Fit, from_start, ◌>>=◌, past, choose, starts, is_comma, is_open_bracket, is_close_bracket, Shape, series_item, series}
 use Rattle.go_syntax.specs.Names.{IsNames, ident_at, names_at, names_more}
 use Rattle.go_syntax.specs.Grammar.{IsUnion}
 use Rattle.go_syntax.specs.Elements.{union_at}
@@ -49,8 +49,11 @@ opens_params _ = false
 
 -- ---- reading
 
+abbrev pub constraint_at : ℕ → List Symbol → Reply (Fit TypeExpr)
+constraint_at n ts = from_start (union_at n (type_at n) (lower_at n)) ts
+
 abbrev pub tparam_type : ℕ → List Ident → ℕ → List Symbol → Reply TParam
-tparam_type n names at ts = union_at n (type_at n) (lower_at n) ts >>= λ ty. Ok (tparam names ty.0.0 at, ty.1)
+tparam_type n names at ts = constraint_at n ts >>= λ ty. Ok (tparam names ty.0.0 at, ty.1)
 
 abbrev pub tparam_more : ℕ → Ident → List Symbol → Reply TParam
 tparam_more n i ts = names_more names_at i ts >>= λ names. tparam_type n names.0 i.start names.1

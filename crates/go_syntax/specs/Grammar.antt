@@ -14,12 +14,16 @@ use Rattle.go_syntax.specs.declared.tree.ElemExpr.{ElemExpr}
 use Rattle.go_syntax.specs.declared.tree.ElemExpr.TheVariants as elem
 use Rattle.go_syntax.specs.declared.tree.TypeExpr.{TypeExpr}
 use Rattle.go_syntax.specs.declared.tree.TypeExpr.TheVariants as y
-use Rattle.go_syntax.specs.Reading.{starts, is_arrow, is_open_paren, start_of}
+use Rattle.go_syntax.specs.Reading.{starts, is_arrow, is_open_paren, is_close_bracket, start_of}
 use Rattle.go_syntax.specs.Names.{IsTypeName, IsNames, IsTag}
 use Rattle.go_syntax.specs.Expressions.{IsExpr}
 
+-- a generic type with its arguments
+abbrev pub instance : NameExpr → List TypeExpr → TypeExpr
+instance x args = y.Name x args x.at
+
 abbrev pub named : NameExpr → TypeExpr
-named x = y.Name x x.at
+named x = instance x []
 
 abbrev pub field : List Ident → TypeExpr → Option Span → ℕ → FieldExpr
 field names ty tag at = record { names = names; ty = ty; tag = tag; at = at }
@@ -35,7 +39,7 @@ term tilde ty at = record { tilde = tilde; ty = ty; at = at }
 
 mutual
   pub data IsType : ℕ → List Symbol → TypeExpr → List Symbol → Type 0 where
-    name : (ts : List Symbol) (x : NameExpr) (rest : List Symbol) → IsTypeName ts x rest → IsType 1 ts (named x) rest
+    name : (n : ℕ) (ts : List Symbol) (ty : TypeExpr) (rest : List Symbol) → IsNamed n ts ty rest → IsType n ts ty rest
     paren : (n at c : ℕ) (ts : List Symbol) (ty : TypeExpr) (rest : List Symbol) → IsType n ts ty (t.CloseParen c ∷ rest)
         → IsType (suc n) (t.OpenParen at ∷ ts) (y.Paren ty at) rest
     pointer : (n at : ℕ) (ts : List Symbol) (ty : TypeExpr) (rest : List Symbol) → IsType n ts ty rest → IsType (suc n) (t.Star at ∷ ts) (y.Pointer ty at) rest
@@ -60,13 +64,30 @@ mutual
     interface : (n at b : ℕ) (ts : List Symbol) (elems : List ElemExpr) (rest : List Symbol) → IsElems n ts elems rest
         → IsType (suc n) (t.Interface at ∷ t.OpenBrace b ∷ ts) (y.Interface elems at) rest
 
+  -- TypeName [ Args ]
+  pub data IsNamed : ℕ → List Symbol → TypeExpr → List Symbol → Type 0 where
+    by_name : (n : ℕ) (ts : List Symbol) (x : NameExpr) (us : List Symbol) (args : List TypeExpr) (rest : List Symbol)
+        → IsTypeName ts x us → IsArgs n us args rest → IsNamed (suc n) ts (instance x args) rest
+
+  -- [ "[" Type { "," Type } [ "," ] "]" ]
+  pub data IsArgs : ℕ → List Symbol → List TypeExpr → List Symbol → Type 0 where
+    no_args : (rest : List Symbol) → IsArgs 0 rest [] rest
+    some_args : (n o : ℕ) (ts : List Symbol) (args : List TypeExpr) (rest : List Symbol) → starts is_close_bracket ts ≡ false → IsTypes n ts args rest → IsArgs n (t.OpenBracket o ∷ ts) args rest
+
+  -- types up to the bracket that closes, with a comma between each two, and perhaps after the last
+  pub data IsTypes : ℕ → List Symbol → List TypeExpr → List Symbol → Type 0 where
+    no_type : (c : ℕ) (rest : List Symbol) → IsTypes 0 (t.CloseBracket c ∷ rest) [] rest
+    last_type : (n c : ℕ) (ts : List Symbol) (ty : TypeExpr) (rest : List Symbol) → IsType n ts ty (t.CloseBracket c ∷ rest) → IsTypes n ts (ty ∷ []) rest
+    more_types : (m n s : ℕ) (ts us : List Symbol) (ty : TypeExpr) (types : List TypeExpr) (rest : List Symbol)
+        → IsType m ts ty (t.Comma s ∷ us) → IsTypes n us types rest → IsTypes (max m n) ts (ty ∷ types) rest
+
   pub data IsField : ℕ → List Symbol → FieldExpr → List Symbol → Type 0 where
     shared : (n : ℕ) (i : Ident) (names : List Ident) (ts us : List Symbol) (ty : TypeExpr) (vs : List Symbol) (tag : Option Span) (rest : List Symbol)
         → IsNames ts (i ∷ names) us → IsType n us ty vs → IsTag vs tag rest → IsField n ts (field (i ∷ names) ty tag i.start) rest
-    embedded : (x : NameExpr) (ts us : List Symbol) (tag : Option Span) (rest : List Symbol) → IsTypeName ts x us → IsTag us tag rest
-        → IsField 1 ts (field [] (named x) tag x.at) rest
-    embedded_pointer : (at : ℕ) (x : NameExpr) (ts us : List Symbol) (tag : Option Span) (rest : List Symbol) → IsTypeName ts x us → IsTag us tag rest
-        → IsField 2 (t.Star at ∷ ts) (field [] (y.Pointer (named x) at) tag at) rest
+    embedded : (n : ℕ) (ts : List Symbol) (ty : TypeExpr) (us : List Symbol) (tag : Option Span) (rest : List Symbol) → IsNamed n ts ty us → IsTag us tag rest
+        → IsField n ts (field [] ty tag (start_of ts)) rest
+    embedded_pointer : (n at : ℕ) (ts : List Symbol) (ty : TypeExpr) (us : List Symbol) (tag : Option Span) (rest : List Symbol) → IsNamed n ts ty us → IsTag us tag rest
+        → IsField (suc n) (t.Star at ∷ ts) (field [] (y.Pointer ty at) tag at) rest
 
   -- up to the brace that closes; the last semicolon may be left out
   pub data IsFields : ℕ → List Symbol → List FieldExpr → List Symbol → Type 0 where

@@ -1,4 +1,5 @@
 pub mod Reading
+pub mod Either
 pub mod Names
 pub mod Grammar
 pub mod Expressions

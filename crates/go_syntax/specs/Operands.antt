@@ -8,7 +8,7 @@ use Rattle.go_syntax.specs.declared.faults.Fault.{Fault}
 use Rattle.go_syntax.specs.declared.faults.Fault.TheVariants.{Call}
 use Rattle.go_syntax.specs.declared.tree.NameExpr.{NameExpr}
 use Rattle.go_syntax.specs.declared.expressions.Operand.{Operand}
-use Rattle.go_syntax.specs.Reading.{Reply, ◌>>=◌, unexpected, too_deep, past, peek, is_close_paren}
+use Rattle.go_syntax.specs.Reading.{Reply, from_start, ◌>>=◌, unexpected, too_deep, past, peek, is_close_paren}
 use Rattle.go_syntax.specs.Names.{dotted}
 use Rattle.go_syntax.specs.Expressions.{level, is_unary, between_of, text_token, literal, constant, conversion, enclosed, unary, binary}
 
@@ -134,3 +134,7 @@ expr_of (suc n) l ts = level_by n (expr_of n) l ts
 
 abbrev pub expr_at : ℕ → Reader
 expr_at n = expr_of n 5
+
+-- one that stands in no other, nor in a type
+abbrev pub outer_expr : ℕ → Reader
+outer_expr n ts = from_start (expr_at n) ts

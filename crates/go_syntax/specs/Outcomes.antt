@@ -44,6 +44,6 @@ pub record IsTooDeep (n : ℕ) (ts : List Symbol) (left : ℕ) : Type 0 where
 -- what each fault says of the tokens, where n nodes are allowed
 abbrev pub Explains : ℕ → List Symbol → Fault → Type 0
 Explains n ts (Unexpected left) = IsUnexpected ts left
-Explains n ts (Deep left) = IsTooDeep n ts left
+Explains n ts (Deep left at) = IsTooDeep n ts left
 Explains n ts (DotImport left) = IsUnexpected ts left
 Explains n ts (Call left at) = IsUnexpected ts left

@@ -7,8 +7,9 @@ use Rattle.go_syntax.specs.declared.params.Param.{Param}
 use Rattle.go_syntax.specs.declared.tree.ParamExpr.{ParamExpr}
 use Rattle.go_syntax.specs.declared.tree.SigExpr.{SigExpr}
 use Rattle.go_syntax.specs.declared.tree.TypeExpr.{TypeExpr}
-use Rattle.go_syntax.specs.Reading.{Reply, ◌>>=◌, unexpected, too_deep, past, is_open_paren, is_close_paren, is_comma, is_ellipsis, begins_type, choose, peek, start_of, Shape, series_end, series, placed, Fit, fitting, with_fit}
-use Rattle.go_syntax.specs.Names.{plain, ident_at, dotted, names_more, names_at}
+use Rattle.go_syntax.specs.Reading.{Reply, ◌>>=◌, unexpected, too_deep, past, is_open_paren, is_close_paren, is_open_bracket, is_comma, is_ellipsis, begins_type, choose, peek, start_of, Shape, series_end, series, placed, Fit, fitting, with_fit}
+use Rattle.go_syntax.specs.Either.{either}
+use Rattle.go_syntax.specs.Names.{plain, ident_at, names_more, names_at}
 use Rattle.go_syntax.specs.Grammar.{named, param, signature}
 
 abbrev pub item : List Ident → Bool → Fit TypeExpr → ℕ → Param
@@ -89,10 +90,10 @@ shows_type (t.CloseParen at) = true
 shows_type (t.Dot at) = true
 shows_type _ = false
 
--- a type's name, after identifiers that are types too
+-- a type that begins with an identifier, after it and identifiers that are types too
 abbrev pub types_by : Bool → ℕ → (List Symbol → Reply (Fit TypeExpr)) → List Ident → Ident → List Symbol → Reply (Fit (List ParamExpr))
 types_by v zero inner names i ts = too_deep ts
-types_by v (suc n) inner names i ts = dotted i ts >>= λ x. with_fit (map bare names, n) (params_end false v (suc n) inner (item [] false (named x.0, n) i.start) x.1)
+types_by v (suc n) inner names i ts = inner (t.Ident i ∷ ts) >>= λ ty. with_fit (map bare names, n) (params_end false v (suc n) inner (item [] false ty.0 i.start) ty.1)
 
 -- the first parameter with names, after the last of them
 abbrev pub names_by : Bool → (List Symbol → Reply (Fit TypeExpr)) → List Ident → Ident → List Symbol → Reply Param
@@ -102,9 +103,16 @@ names_by v inner (j ∷ names) i ts = param_type inner (j ∷ names ++ i ∷ [])
 abbrev pub named_by : Bool → ℕ → (List Symbol → Reply (Fit TypeExpr)) → List Ident → Ident → List Symbol → Reply (Fit (List ParamExpr))
 named_by v n inner names i ts = names_by v inner names i ts >>= λ x. with_fit ([], n) (params_end true v n inner x.0 x.1)
 
+-- before a bracket: the name of a parameter that is an array or a slice, or a type with arguments
+abbrev pub array_or_instance : Bool → ℕ → (List Symbol → Reply (Fit TypeExpr)) → List Ident → Ident → List Symbol → Reply (Fit (List ParamExpr))
+array_or_instance v n inner names i ts = either (named_by v n inner names i ts) (types_by v n inner names i ts)
+
+abbrev pub name_or_type : Bool → ℕ → (List Symbol → Reply (Fit TypeExpr)) → List Ident → Ident → List Symbol → Reply (Fit (List ParamExpr))
+name_or_type v n inner names i ts = peek is_open_bracket ts (array_or_instance v n inner names i ts) (named_by v n inner names i ts)
+
 -- after an identifier with no comma behind
 abbrev pub after_ident : Bool → ℕ → (List Symbol → Reply (Fit TypeExpr)) → List Ident → Ident → List Symbol → Reply (Fit (List ParamExpr))
-after_ident v n inner names i ts = peek shows_type ts (types_by v n inner names i ts) (named_by v n inner names i ts)
+after_ident v n inner names i ts = peek shows_type ts (types_by v n inner names i ts) (name_or_type v n inner names i ts)
 
 -- parameters, after identifiers with a comma behind each
 abbrev pub params_from : Bool → ℕ → (List Symbol → Reply (Fit TypeExpr)) → List Ident → List Symbol → Reply (Fit (List ParamExpr))

@@ -12,21 +12,35 @@ use Rattle.go_syntax.specs.declared.parsing.SyntaxFault.{SyntaxFault}
 use Rattle.go_syntax.specs.declared.parsing.SyntaxFault.TheVariants as fault
 use Rattle.go_syntax.specs.Outcomes.{IsUnexpected, IsTooDeep}
 use Rattle.go_syntax.specs.Source.{symbols_of, place_of}
+use Rattle.go_syntax.specs.Files.{file_at}
 
 abbrev pub fault_of : List ℕ → List Token → Fault → SyntaxFault
 fault_of src tokens (stop.Unexpected left) = fault.Unexpected (place_of src tokens left)
-fault_of src tokens (stop.Deep left) = fault.LeftOut (place_of src tokens left) what.Depth
+fault_of src tokens (stop.Deep left at) = fault.LeftOut at what.Depth
 fault_of src tokens (stop.DotImport left) = fault.LeftOut (place_of src tokens left) what.DotImport
 fault_of src tokens (stop.Call left at) = fault.LeftOut at what.Call
 
--- what is answered of a reading
+-- what reading a source from the front gives, with each fault at its place
+abbrev pub placed_in : List ℕ → List Token → Result SourceFile Fault → Result SourceFile SyntaxFault
+placed_in src tokens (Ok f) = Ok f
+placed_in src tokens (Err f) = Err (fault_of src tokens f)
+
+abbrev pub reading_of : List ℕ → List Token → Result SourceFile SyntaxFault
+reading_of src tokens = placed_in src tokens (file_at 1000 (symbols_of src tokens))
+
+-- the answer is this one, unless memory ran out
+abbrev pub IsReading : Result SourceFile SyntaxFault → Result SourceFile SyntaxFault → Type 0
+IsReading (Err fault.OutOfMemory) read = Unit {0}
+IsReading answer read = answer ≡ read
+
+-- what is answered of a call that reads
 abbrev pub answer_of : List ℕ → List Token → Result SourceFile Stop → Result SourceFile SyntaxFault
 answer_of src tokens (Ok f) = Ok f
 answer_of src tokens (Err stopped.OutOfMemory) = Err fault.OutOfMemory
 answer_of src tokens (Err (stopped.At f)) = Err (fault_of src tokens f)
 
 abbrev pub TellsOut : List ℕ → List Token → ℕ → What → Type 0
-TellsOut src tokens at what.Depth = (left : ℕ) × (at ≡ place_of src tokens left) × IsTooDeep 1000 (symbols_of src tokens) left
+TellsOut src tokens at what.Depth = (left : ℕ) × IsTooDeep 1000 (symbols_of src tokens) left
 TellsOut src tokens at what.Call = (left : ℕ) × IsUnexpected (symbols_of src tokens) left
 TellsOut src tokens at what.DotImport = (left : ℕ) × (at ≡ place_of src tokens left) × IsUnexpected (symbols_of src tokens) left
 

@@ -3,7 +3,7 @@ use Rattle.std.specs.Prelude.{◌≡◌, ℕ, zero, suc, min, Bool, true, false,
 use Rattle.go_syntax.specs.declared.symbols.Symbol.{Symbol}
 use Rattle.go_syntax.specs.declared.symbols.Symbol.TheVariants as t
 use Rattle.go_syntax.specs.declared.faults.Fault.{Fault}
-use Rattle.go_syntax.specs.declared.faults.Fault.TheVariants.{Unexpected, Deep}
+use Rattle.go_syntax.specs.declared.faults.Fault.TheVariants.{Unexpected, Deep, DotImport, Call}
 use Rattle.go_syntax.specs.declared.faults.Stop.{Stop}
 use Rattle.go_syntax.specs.declared.faults.Stop.TheVariants as stop
 
@@ -19,9 +19,59 @@ abbrev pub ◌>>=◌ : {A B : Type 0} → Result A Fault → (A → Result B Fau
 abbrev pub unexpected : {X : Type 0} → List Symbol → Result X Fault
 unexpected ts = Err (Unexpected (length ts))
 
+-- the first byte of a token
+abbrev pub symbol_start : Symbol → ℕ
+symbol_start (t.Ident i) = i.start
+symbol_start (t.Text s) = s.start
+symbol_start (t.Semicolon at) = at
+symbol_start (t.Comma at) = at
+symbol_start (t.Dot at) = at
+symbol_start (t.Assign at) = at
+symbol_start (t.OpenParen at) = at
+symbol_start (t.CloseParen at) = at
+symbol_start (t.OpenBracket at) = at
+symbol_start (t.CloseBracket at) = at
+symbol_start (t.OpenBrace at) = at
+symbol_start (t.CloseBrace at) = at
+symbol_start (t.Star at) = at
+symbol_start (t.Arrow at) = at
+symbol_start (t.Package at) = at
+symbol_start (t.Import at) = at
+symbol_start (t.Type at) = at
+symbol_start (t.Var at) = at
+symbol_start (t.Chan at) = at
+symbol_start (t.Map at) = at
+symbol_start (t.Struct at) = at
+symbol_start (t.Func at) = at
+symbol_start (t.Interface at) = at
+symbol_start (t.Ellipsis at) = at
+symbol_start (t.Tilde at) = at
+symbol_start (t.Bar at) = at
+symbol_start (t.Operator op at) = at
+symbol_start (t.Literal token) = token.start
+symbol_start (t.Const at) = at
+symbol_start (t.Other at) = at
+
+-- the place of the first token
+abbrev pub start_of : List Symbol → ℕ
+start_of [] = 0
+start_of (k ∷ ts) = symbol_start k
+
 -- with the next token a path is too long
 abbrev pub too_deep : {X : Type 0} → List Symbol → Result X Fault
-too_deep ts = Err (Deep (length ts))
+too_deep ts = Err (Deep (length ts) (start_of ts))
+
+-- the same reply, where a path that is too long is told at this place
+abbrev pub told_at : {X : Type 0} → ℕ → Reply X → Reply X
+told_at at (Ok z) = Ok z
+told_at at (Err (Unexpected k)) = Err (Unexpected k)
+told_at at (Err (Deep k began)) = Err (Deep k at)
+told_at at (Err (DotImport k)) = Err (DotImport k)
+told_at at (Err (Call k c)) = Err (Call k c)
+
+-- What is a type or an expression of its own: a path that is too long in it is told at its first token, so the outermost one has the last word.
+abbrev pub from_start : {X : Type 0} → (List Symbol → Reply X) → List Symbol → Reply X
+from_start p ts = told_at (start_of ts) (p ts)
 
 -- one token of a kind
 abbrev pub past : (Symbol → Bool) → List Symbol → Result (List Symbol) Fault
@@ -212,44 +262,6 @@ abbrev pub chain : {X Y : Type 0} → (Symbol → Bool) → (X → Y) → (X →
 chain sep single cons one ts = steps (chain_by sep single cons one) ts
 
 -- ---- places, and how much deeper a tree might be
-
--- the first byte of a token
-abbrev pub symbol_start : Symbol → ℕ
-symbol_start (t.Ident i) = i.start
-symbol_start (t.Text s) = s.start
-symbol_start (t.Semicolon at) = at
-symbol_start (t.Comma at) = at
-symbol_start (t.Dot at) = at
-symbol_start (t.Assign at) = at
-symbol_start (t.OpenParen at) = at
-symbol_start (t.CloseParen at) = at
-symbol_start (t.OpenBracket at) = at
-symbol_start (t.CloseBracket at) = at
-symbol_start (t.OpenBrace at) = at
-symbol_start (t.CloseBrace at) = at
-symbol_start (t.Star at) = at
-symbol_start (t.Arrow at) = at
-symbol_start (t.Package at) = at
-symbol_start (t.Import at) = at
-symbol_start (t.Type at) = at
-symbol_start (t.Var at) = at
-symbol_start (t.Chan at) = at
-symbol_start (t.Map at) = at
-symbol_start (t.Struct at) = at
-symbol_start (t.Func at) = at
-symbol_start (t.Interface at) = at
-symbol_start (t.Ellipsis at) = at
-symbol_start (t.Tilde at) = at
-symbol_start (t.Bar at) = at
-symbol_start (t.Operator op at) = at
-symbol_start (t.Literal token) = token.start
-symbol_start (t.Const at) = at
-symbol_start (t.Other at) = at
-
--- the place of the first token
-abbrev pub start_of : List Symbol → ℕ
-start_of [] = 0
-start_of (k ∷ ts) = symbol_start k
 
 -- what is read, with the place of its first token
 abbrev pub placed : {X : Type 0} → (List Symbol → Reply X) → List Symbol → Reply (X × ℕ)

@@ -1,14 +1,15 @@
 -- Types, as they are read, each with how many more nodes its longest path might have.
-use Rattle.std.specs.Prelude.{ℕ, zero, suc, ◌-◌, min, Bool, true, false, List, [], ◌∷◌, Ok}
+use Rattle.std.specs.Prelude.{ℕ, zero, suc, min, Bool, true, false, List, [], ◌∷◌, Ok}
 use Rattle.go_syntax.specs.declared.symbols.Symbol.{Symbol}
 use Rattle.go_syntax.specs.declared.symbols.Symbol.TheVariants as t
 use Rattle.go_syntax.specs.declared.symbols.Ident.{Ident}
 use Rattle.go_syntax.specs.declared.tree.FieldExpr.{FieldExpr}
 use Rattle.go_syntax.specs.declared.tree.TypeExpr.{TypeExpr}
 use Rattle.go_syntax.specs.declared.tree.TypeExpr.TheVariants as y
-use Rattle.go_syntax.specs.Reading.{Reply, ◌>>=◌, unexpected, too_deep, past, is_semicolon, is_close_paren, is_open_bracket, is_close_bracket, is_open_brace, is_close_brace, is_chan, is_arrow, is_comma, is_ident, begins_type, choose, peek, series, Fit, fits}
-use Rattle.go_syntax.specs.Names.{ident_at, tag_at, dotted, names_more, names_at}
-use Rattle.go_syntax.specs.Grammar.{named, field}
+use Rattle.go_syntax.specs.Reading.{Reply, ◌>>=◌, unexpected, too_deep, past, is_semicolon, is_close_paren, is_open_bracket, is_close_bracket, is_open_brace, is_close_brace, is_chan, is_arrow, is_comma, is_ident, begins_type, symbol_start, from_start, choose, peek, series, Fit, fits}
+use Rattle.go_syntax.specs.Either.{either}
+use Rattle.go_syntax.specs.Names.{tag_at, names_more, names_at}
+use Rattle.go_syntax.specs.Grammar.{field}
 use Rattle.go_syntax.specs.Operands.{Sized, expr_at}
 use Rattle.go_syntax.specs.Params.{sig_at}
 use Rattle.go_syntax.specs.Elements.{name_by, interface_by}
@@ -64,26 +65,14 @@ tagged names ty at ts = tag_at ts >>= λ tag. Ok ((field names ty.0 tag.0 at, ty
 abbrev pub shared_by : (List Symbol → Reply (Fit TypeExpr)) → List Ident → ℕ → List Symbol → Reply (Fit FieldExpr)
 shared_by inner names at ts = inner ts >>= λ ty. tagged names ty.0 at ty.1
 
--- after the name of an embedded type, where n more nodes would fit
-abbrev pub embedded_by : ℕ → Ident → List Symbol → Reply (Fit FieldExpr)
-embedded_by n i ts = dotted i ts >>= λ x. tagged [] (named x.0, n) (x.0).at x.1
-
--- after the star of an embedded pointer
-abbrev pub pointer_by : ℕ → ℕ → Ident → List Symbol → Reply (Fit FieldExpr)
-pointer_by n at i ts = dotted i ts >>= λ x. tagged [] (y.Pointer (named x.0) at, n) at x.1
-
--- the name that an embedded type begins with, where n nodes are left
-abbrev pub embedded_ident : ℕ → List Symbol → Reply Ident
-embedded_ident zero ts = peek is_ident ts (too_deep ts) (unexpected ts)
-embedded_ident (suc n) ts = ident_at ts
-
-abbrev pub star_by : ℕ → ℕ → List Symbol → Reply (Fit FieldExpr)
-star_by n at ts = embedded_ident n ts >>= λ i. pointer_by (n - 1) at i.0 i.1
+-- after the first token of an embedded type
+abbrev pub embedded_by : (List Symbol → Reply (Fit TypeExpr)) → Symbol → List Symbol → Reply (Fit FieldExpr)
+embedded_by inner k ts = inner (k ∷ ts) >>= λ ty. tagged [] ty.0 (symbol_start k) ty.1
 
 -- a name that turns out to be a type, where n nodes are left
-abbrev pub lone_by : ℕ → Ident → List Symbol → Reply (Fit FieldExpr)
-lone_by zero i ts = too_deep ts
-lone_by (suc n) i ts = embedded_by n i ts
+abbrev pub lone_by : ℕ → (List Symbol → Reply (Fit TypeExpr)) → Ident → List Symbol → Reply (Fit FieldExpr)
+lone_by zero inner i ts = too_deep ts
+lone_by (suc n) inner i ts = embedded_by inner (t.Ident i) ts
 
 -- whether this token shows that the identifier before it is an embedded type
 abbrev pub shows_embedded : Symbol → Bool
@@ -97,16 +86,32 @@ shows_embedded _ = false
 abbrev pub more_names : (List Symbol → Reply (Fit TypeExpr)) → Ident → List Symbol → Reply (Fit FieldExpr)
 more_names inner i ts = names_more names_at i ts >>= λ names. shared_by inner names.0 i.start names.1
 
+-- after a field's only name
+abbrev pub only_by : (List Symbol → Reply (Fit TypeExpr)) → Ident → List Symbol → Reply (Fit FieldExpr)
+only_by inner i ts = shared_by inner (i ∷ []) i.start ts
+
+-- after an identifier before a bracket: the name of a field that is an array or a slice, or an embedded type with arguments
+abbrev pub array_or_instance : ℕ → (List Symbol → Reply (Fit TypeExpr)) → Ident → List Symbol → Reply (Fit FieldExpr)
+array_or_instance n inner i ts = either (only_by inner i ts) (lone_by n inner i ts)
+
+-- after an identifier with no comma behind
+abbrev pub sole_by : ℕ → (List Symbol → Reply (Fit TypeExpr)) → Ident → List Symbol → Reply (Fit FieldExpr)
+sole_by n inner i ts = peek is_open_bracket ts (array_or_instance n inner i ts) (only_by inner i ts)
+
 -- after a field's first identifier
 abbrev pub first_by : ℕ → (List Symbol → Reply (Fit TypeExpr)) → Ident → List Symbol → Reply (Fit FieldExpr)
-first_by n inner i ts = choose (past is_comma ts) (more_names inner i) (peek shows_embedded ts (lone_by n i ts) (shared_by inner (i ∷ []) i.start ts))
+first_by n inner i ts = choose (past is_comma ts) (more_names inner i) (peek shows_embedded ts (lone_by n inner i ts) (sole_by n inner i ts))
 
-abbrev pub star_at : ℕ → ℕ → List Symbol → Reply (Fit FieldExpr)
-star_at zero at ts = too_deep (t.Star at ∷ ts)
-star_at (suc n) at ts = star_by n at ts
+-- after the star of an embedded pointer
+abbrev pub star_by : (List Symbol → Reply (Fit TypeExpr)) → ℕ → List Symbol → Reply (Fit FieldExpr)
+star_by inner at ts = peek is_ident ts (embedded_by inner (t.Star at) ts) (unexpected ts)
+
+abbrev pub star_at : ℕ → (List Symbol → Reply (Fit TypeExpr)) → ℕ → List Symbol → Reply (Fit FieldExpr)
+star_at zero inner at ts = too_deep (t.Star at ∷ ts)
+star_at (suc n) inner at ts = star_by inner at ts
 
 abbrev pub field_by : ℕ → (List Symbol → Reply (Fit TypeExpr)) → List Symbol → Reply (Fit FieldExpr)
-field_by n inner (t.Star at ∷ ts) = star_at n at ts
+field_by n inner (t.Star at ∷ ts) = star_at n inner at ts
 field_by n inner (t.Ident i ∷ ts) = first_by n inner i ts
 field_by n inner ts = unexpected ts
 
@@ -121,7 +126,7 @@ struct_by n inner at ts = past is_open_brace ts >>= λ us. struct_inside n inner
 
 -- one step, with what reads the types inside, where n nodes are left for them, and those a node deeper
 abbrev pub type_by : ℕ → (List Symbol → Reply (Fit TypeExpr)) → (List Symbol → Reply (Fit TypeExpr)) → List Symbol → Reply (Fit TypeExpr)
-type_by n inner lower (t.Ident i ∷ ts) = name_by n i ts
+type_by n inner lower (t.Ident i ∷ ts) = name_by n inner i ts
 type_by n inner lower (t.OpenParen at ∷ ts) = paren_by inner at ts
 type_by n inner lower (t.Star at ∷ ts) = with_type inner (λ ty. y.Pointer ty at) ts
 type_by n inner lower (t.OpenBracket at ∷ ts) = bracket_by n inner at ts
@@ -144,7 +149,7 @@ pub record Readers : Type 0 where
 
 unfoldable pub readers : ℕ → Readers
 readers zero = record { here = no_type; below = no_type }
-readers (suc n) = record { here = type_by n (readers n).here (readers n).below; below = (readers n).here }
+readers (suc n) = record { here = from_start (type_by n (readers n).here (readers n).below); below = (readers n).here }
 
 -- a type with up to n nodes on a path
 abbrev pub type_at : ℕ → List Symbol → Reply (Fit TypeExpr)

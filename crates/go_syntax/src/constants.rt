@@ -3,7 +3,7 @@ ghost use Rattle.go_syntax.specs.Reading.{Gives, row, is_close_paren};
 ghost use Rattle.go_syntax.specs.Constants.{source_of, constants, exprs_at, const_values, const_typed, const_rest, const_first, const_spec_at};
 ghost use Rattle.go_syntax.specs.Files.{counting, const_group_at};
 
-use crate::expressions::expression;
+use crate::expressions::outer_expression;
 use crate::faults::Stop;
 use crate::names::more_names;
 use crate::reading::{Kind, ident, past, starts};
@@ -32,7 +32,7 @@ fn expression_list(
     let mut found = Items::new(alloc);
     let mut rest = tokens;
     loop {
-        let ((value, _), after) = expression(alloc, rest, 5, left)?;
+        let ((value, _), after) = outer_expression(alloc, rest, left)?;
         found.push(value.expr)?;
         let Ok(next) = past(Kind::Comma, after) else {
             return Ok((found, after));

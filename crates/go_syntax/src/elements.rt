@@ -4,9 +4,9 @@ ghost use Rattle.go_syntax.specs.Elements.{term_at, terms_at, more_terms, after_
 ghost use Rattle.go_syntax.specs.Types.{type_at, lower_at};
 
 use crate::faults::{Fault, Stop};
-use crate::names::dotted;
+use crate::instances::named_type;
 use crate::params::signature;
-use crate::reading::{Kind, ident, past, single, start, starts};
+use crate::reading::{Kind, ident, past, single, start, starts, too_deep};
 use crate::symbols::{Ident, Symbol};
 use crate::tree::{ElemExpr, TermExpr, TypeExpr};
 use crate::types::{lower_type, type_expr};
@@ -74,7 +74,7 @@ fn after_type(
     };
     let (ty, fit) = first;
     if fit == 0 {
-        return Err(Stop::At(Fault::Deep(tokens.len())));
+        return Err(Stop::At(too_deep(tokens)));
     }
     let tilde = false;
     let term = TermExpr { tilde, ty, at };
@@ -111,7 +111,7 @@ fn tilde_type(
     ensures { Gives (λ x. (x.0, x.1.now)) result (tilde_at left (lower_at left) tokens.now) }
 {
     if left == 0 {
-        return Err(Stop::At(Fault::Deep(tokens.len())));
+        return Err(Stop::At(too_deep(tokens)));
     }
     let at = start(tokens);
     let rest = past(Kind::Tilde, tokens)?;
@@ -148,10 +148,9 @@ fn embedded_elem(
     if left == 0 {
         return Err(Stop::At(no_elem(tokens)));
     }
-    let (x, rest) = dotted(name, tokens)?;
-    let first = TypeExpr::Name { name: x, at: x.at };
+    let (first, rest) = named_type(alloc, name, tokens, left - 1)?;
     let at = name.start;
-    let ((ty, fit), rest) = after_type(alloc, (first, left - 1), at, rest, left)?;
+    let ((ty, fit), rest) = after_type(alloc, first, at, rest, left)?;
     Ok(((ElemExpr::Embedded { ty, at }, fit), rest))
 }
 
@@ -160,7 +159,7 @@ fn no_elem(tokens: &[Symbol]) -> Fault
     ensures { no_elem tokens.now ≡ Err result }
 {
     if starts(Kind::ElementEnd, tokens) {
-        Fault::Deep(tokens.len())
+        too_deep(tokens)
     } else {
         Fault::Unexpected(tokens.len())
     }

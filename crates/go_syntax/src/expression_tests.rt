@@ -95,10 +95,9 @@ fn a_thousand_nodes_of_lengths_are_read(rt: HostRuntime) -> Result<(), Fail> {
 
 #[test]
 fn no_more_than_a_thousand_nodes_of_lengths_are_read(rt: HostRuntime) -> Result<(), Fail> {
-    let met = "LeftOut { at: 1018, what: Depth }";
+    let met = "LeftOut { at: 18, what: Depth }";
     assert_eq!(rt; nested(rt.alloc(), b"(", b")", 999)?.as_str(), met);
     assert_eq!(rt; nested(rt.alloc(), b"^", b"", 999)?.as_str(), met);
-    let met = "LeftOut { at: 2016, what: Depth }";
     assert_eq!(rt; nested(rt.alloc(), b"n+", b"", 999)?.as_str(), met);
     Ok(())
 }

@@ -1,11 +1,11 @@
 ghost use Rattle.std.specs.Prelude.{◌≡◌, ◌<◌, ◌-◌, Err, IfOk};
 ghost use Rattle.go_syntax.specs.Reading.{Exactly, Gives};
 ghost use Rattle.go_syntax.specs.Expressions.{level, is_unary, between_of, text_token, literal, constant, conversion, enclosed, unary, binary};
-ghost use Rattle.go_syntax.specs.Operands.{uncalled, converted, convert_by, named_by, enclosed_by, signed_by, operand_by, operator_at, climb, level_by, no_expr, expr_of};
+ghost use Rattle.go_syntax.specs.Operands.{uncalled, converted, convert_by, named_by, enclosed_by, signed_by, operand_by, operator_at, climb, level_by, no_expr, expr_of, outer_expr};
 
 use crate::faults::{Fault, Stop};
 use crate::names::dotted;
-use crate::reading::{Kind, past, starts};
+use crate::reading::{Kind, past, start, starts, told_at, too_deep};
 use crate::symbols::{Operator, Span, Symbol};
 use crate::tree::{Expr, NameExpr};
 use go_lexer::{Token, TokenKind};
@@ -168,7 +168,7 @@ fn no_expr(tokens: &[Symbol]) -> Fault
     ensures { no_expr tokens.now ≡ Err result }
 {
     if starts(Kind::ExprStart, tokens) {
-        Fault::Deep(tokens.len())
+        too_deep(tokens)
     } else {
         Fault::Unexpected(tokens.len())
     }
@@ -326,7 +326,7 @@ fn operators(
             return Ok(((found, spare), rest));
         };
         if spare == 0 {
-            return Err(Stop::At(Fault::Deep(rest.len())));
+            return Err(Stop::At(too_deep(rest)));
         }
         let ((right, other), next) = expression(alloc, after, level - 1, left)?;
         found = binary(alloc, op, found, right)?;
@@ -372,4 +372,15 @@ pub(crate) fn expression(
         return Err(Stop::At(no_expr(tokens)));
     }
     up_to_level(alloc, tokens, level, left - 1)
+}
+
+/// An expression that stands in no other, nor in a type: its first token tells a path that is too long.
+pub(crate) fn outer_expression(
+    alloc: Global,
+    tokens: &[Symbol],
+    left: usize,
+) -> Result<((Operand, usize), &[Symbol]), Stop>
+    ensures { Gives (λ x. (x.0, x.1.now)) result (outer_expr left tokens.now) }
+{
+    told_at(start(tokens), expression(alloc, tokens, 5, left))
 }

@@ -79,7 +79,7 @@ fn a_method_has_its_places(rt: HostRuntime) -> Result<(), Fail> {
     )?;
     let names = "Items { items: [Ident { start: 28, end: 29 }] }";
     let ty =
-        "Name { name: NameExpr { package: None, name: Ident { start: 30, end: 31 }, at: 30 }, at: 30 }";
+        "Name { name: NameExpr { package: None, name: Ident { start: 30, end: 31 }, at: 30 }, args: Items { items: [] }, at: 30 }";
     let params = format!(in rt.alloc();
         "Items {{ items: [ParamExpr {{ names: {names}, variadic: false, ty: {ty}, at: 28 }}] }}"
     )?;
@@ -98,7 +98,7 @@ fn variables_keep_their_type_alone(rt: HostRuntime) -> Result<(), Fail> {
     let src = source(rt.alloc(), b"var (a B = c; d = 1)")?;
     let found = printed(rt.alloc(), &src)?;
     let ty =
-        "Name { name: NameExpr { package: None, name: Ident { start: 18, end: 19 }, at: 18 }, at: 18 }";
+        "Name { name: NameExpr { package: None, name: Ident { start: 18, end: 19 }, at: 18 }, args: Items { items: [] }, at: 18 }";
     let first = format!(in rt.alloc();
         "Var(VarSpec {{ names: Items {{ items: [Ident {{ start: 16, end: 17 }}] }}, ty: Some({ty}) }})"
     )?;

@@ -58,12 +58,12 @@ fn type_parameters_share_their_constraint(rt: HostRuntime) -> Result<(), Fail> {
     let found = printed(rt.alloc(), &src)?;
     let names = "Items { items: [Ident { start: 18, end: 19 }, Ident { start: 21, end: 22 }] }";
     let constraint =
-        "Name { name: NameExpr { package: None, name: Ident { start: 23, end: 24 }, at: 23 }, at: 23 }";
+        "Name { name: NameExpr { package: None, name: Ident { start: 23, end: 24 }, at: 23 }, args: Items { items: [] }, at: 23 }";
     let tparams = format!(in rt.alloc();
         "Items {{ items: [TParam {{ names: {names}, constraint: {constraint}, at: 18 }}] }}"
     )?;
     let ty =
-        "Name { name: NameExpr { package: None, name: Ident { start: 28, end: 29 }, at: 28 }, at: 28 }";
+        "Name { name: NameExpr { package: None, name: Ident { start: 28, end: 29 }, at: 28 }, args: Items { items: [] }, at: 28 }";
     let expected = format!(in rt.alloc();
         "[Alias(TypeSpec {{ name: Ident {{ start: 16, end: 17 }}, tparams: {tparams}, ty: {ty} }})]"
     )?;

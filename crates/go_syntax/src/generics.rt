@@ -1,13 +1,13 @@
 ghost use Rattle.std.specs.Prelude.{◌≡◌};
 ghost use Rattle.go_syntax.specs.Reading.{Gives};
-ghost use Rattle.go_syntax.specs.Generics.{opens_params, tparam_type, tparam_first, tparam_at, tparams_row, tparams_at, generic_at};
+ghost use Rattle.go_syntax.specs.Generics.{opens_params, constraint_at, tparam_type, tparam_first, tparam_at, tparams_row, tparams_at, generic_at};
 
 use crate::elements::union_type;
 use crate::faults::Stop;
 use crate::names::more_names;
-use crate::reading::{Kind, ident, past, single, starts};
+use crate::reading::{Kind, ident, past, single, start, starts, told_at};
 use crate::symbols::{Ident, Symbol};
-use crate::tree::TParam;
+use crate::tree::{TParam, TypeExpr};
 use sqlite_items::Items;
 use std::alloc::Global;
 
@@ -22,6 +22,17 @@ pub(crate) fn opens_params(tokens: &[Symbol]) -> bool
     }
 }
 
+/// A constraint, whose own first token tells a path that is too long.
+fn constraint(
+    alloc: Global,
+    tokens: &[Symbol],
+    left: usize,
+) -> Result<((TypeExpr, usize), &[Symbol]), Stop>
+    ensures { Gives (λ x. (x.0, x.1.now)) result (constraint_at left tokens.now) }
+{
+    told_at(start(tokens), union_type(alloc, tokens, left))
+}
+
 /// The constraint of type parameters, after their names.
 fn constrained(
     alloc: Global,
@@ -32,7 +43,7 @@ fn constrained(
 ) -> Result<(TParam, &[Symbol]), Stop>
     ensures { Gives (λ x. (x.0, x.1.now)) result (tparam_type left names at tokens.now) }
 {
-    let ((constraint, _), rest) = union_type(alloc, tokens, left)?;
+    let ((constraint, _), rest) = constraint(alloc, tokens, left)?;
     let tparam = TParam {
         names,
         constraint,

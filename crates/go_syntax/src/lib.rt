@@ -3,13 +3,16 @@
 
 mod constants;
 mod decls;
+mod either;
 mod elements;
 mod expressions;
 mod faults;
 mod files;
 mod functions;
 mod generics;
+mod instances;
 mod names;
+mod outcomes;
 mod params;
 mod parsing;
 mod reading;
@@ -19,6 +22,7 @@ mod symbols;
 mod tree;
 mod types;
 
+pub use outcomes::{no_fault_of_a_file, one_place, one_tree};
 pub use parsing::{SyntaxFault, What, parse};
 pub use symbols::{Ident, Operator, Span};
 pub use tree::{
@@ -29,11 +33,15 @@ pub use tree::{
 #[cfg(test)]
 mod constant_tests;
 #[cfg(test)]
+mod depth_tests;
+#[cfg(test)]
 mod expression_tests;
 #[cfg(test)]
 mod function_tests;
 #[cfg(test)]
 mod generic_tests;
+#[cfg(test)]
+mod instance_tests;
 #[cfg(test)]
 mod tests;
 #[cfg(test)]

@@ -1,12 +1,13 @@
 ghost use Rattle.std.specs.Prelude.{◌≡◌, ◌≤◌, [], false, map, Err, IfOk};
 ghost use Rattle.go_syntax.specs.Reading.{Gives, with_fit};
-ghost use Rattle.go_syntax.specs.Params.{bare, item, param_type, type_param, unnamed_param, lone_param, first_param, param_at, params_row, params_end, no_bare, after_bare, types_by, names_by, named_by, after_ident, params_from, results_by, sig_by, sig_at};
-ghost use Rattle.go_syntax.specs.Grammar.{named};
+ghost use Rattle.go_syntax.specs.Params.{bare, item, param_type, type_param, unnamed_param, lone_param, first_param, param_at, params_row, params_end, no_bare, after_bare, types_by, names_by, named_by, array_or_instance, after_ident, params_from, results_by, sig_by, sig_at};
 ghost use Rattle.go_syntax.specs.Types.{type_at};
 
+use crate::either::after_fault;
 use crate::faults::{Fault, Stop};
-use crate::names::{dotted, more_names};
-use crate::reading::{Kind, ident, past, single, start, starts};
+use crate::instances::begun_type;
+use crate::names::more_names;
+use crate::reading::{Kind, ident, past, single, start, starts, too_deep};
 use crate::symbols::{Ident, Symbol};
 use crate::tree::{NameExpr, ParamExpr, SigExpr, TypeExpr};
 use crate::types::type_expr;
@@ -31,6 +32,7 @@ fn bare_param(alloc: Global, name: Ident) -> ParamExpr
             name,
             at: name.start,
         },
+        args: Items::new(alloc),
         at: name.start,
     };
     ParamExpr {
@@ -41,11 +43,10 @@ fn bare_param(alloc: Global, name: Ident) -> ParamExpr
     }
 }
 
-/// A parameter that is the name of a type, where this many nodes more would fit.
-fn name_param(alloc: Global, name: NameExpr, at: u32, fit: usize) -> Param
-    ensures { result ≡ item [] false (named name, fit) at }
+/// A parameter without a name, of this type.
+fn bare_type(alloc: Global, ty: TypeExpr, at: u32, fit: usize) -> Param
+    ensures { result ≡ item [] false (ty, fit) at }
 {
-    let ty = TypeExpr::Name { name, at: name.at };
     let expr = ParamExpr {
         names: Items::new(alloc),
         variadic: false,
@@ -84,7 +85,7 @@ fn no_bare(variadic: bool, tokens: &[Symbol]) -> Fault
         Kind::ListEnd
     };
     if starts(kind, tokens) {
-        Fault::Deep(tokens.len())
+        too_deep(tokens)
     } else {
         Fault::Unexpected(tokens.len())
     }
@@ -298,9 +299,9 @@ fn after_bare<'a>(
     param_row(alloc, (params, left - 1), false, variadic, tokens, left)
 }
 
-/// A type's name in a list of parameters, after its first identifier and those before it.
+/// A type in a list of parameters, after its first identifier and those before it.
 #[cycle(types)]
-fn named_type<'a>(
+fn first_type<'a>(
     alloc: Global,
     names: &[Ident],
     name: Ident,
@@ -311,13 +312,20 @@ fn named_type<'a>(
     ensures { Gives (λ x. (x.0, x.1.now)) result (types_by variadic left (type_at left) names.now name tokens.now) }
 {
     if left == 0 {
-        return Err(Stop::At(Fault::Deep(tokens.len())));
+        return Err(Stop::At(too_deep(tokens)));
     }
-    let (ty, rest) = dotted(name, tokens)?;
+    let ((ty, fit), rest) = begun_type(alloc, name, tokens, left - 1)?;
     let params = bare_params(alloc, names)?;
-    let fit = left - 1;
-    let param = name_param(alloc, ty, name.start, fit);
-    param_end(alloc, (params, fit), param, false, variadic, rest, left)
+    let param = bare_type(alloc, ty, name.start, fit);
+    param_end(
+        alloc,
+        (params, left - 1),
+        param,
+        false,
+        variadic,
+        rest,
+        left,
+    )
 }
 
 /// The first parameter of a list with names, after the last of its names.
@@ -341,6 +349,30 @@ fn shared_param(
     param_type(alloc, names, false, at, tokens, left)
 }
 
+/// A parameter that is an array or a slice, or a type with arguments, and those after it.
+#[cycle(types)]
+fn array_or_instance<'a>(
+    alloc: Global,
+    names: &[Ident],
+    name: Ident,
+    variadic: bool,
+    tokens: &'a [Symbol],
+    left: usize,
+) -> Result<((Items<ParamExpr>, usize), &'a [Symbol]), Stop>
+    ensures { Gives (λ x. (x.0, x.1.now)) result (array_or_instance variadic left (type_at left) names.now name tokens.now) }
+{
+    let own = Items::from_slice(alloc, names)?;
+    match named_params(alloc, own, name, variadic, tokens, left) {
+        Err(Stop::At(fault)) => {
+            after_fault(
+                fault,
+                first_type(alloc, names, name, variadic, tokens, left),
+            )
+        }
+        read => read,
+    }
+}
+
 /// Parameters after identifiers and one with no comma behind.
 #[cycle(types)]
 fn after_ident(
@@ -354,8 +386,26 @@ fn after_ident(
     ensures { Gives (λ x. (x.0, x.1.now)) result (after_ident variadic left (type_at left) names name tokens.now) }
 {
     if starts(Kind::ParamEnd, tokens) {
-        return named_type(alloc, names.as_slice(), name, variadic, tokens, left);
+        return first_type(alloc, names.as_slice(), name, variadic, tokens, left);
     }
+    if starts(Kind::OpenBracket, tokens) {
+        return array_or_instance(alloc, names.as_slice(), name, variadic, tokens, left);
+    }
+    named_params(alloc, names, name, variadic, tokens, left)
+}
+
+/// Parameters with names, after the names of the first.
+#[cycle(types)]
+fn named_params(
+    alloc: Global,
+    names: Items<Ident>,
+    name: Ident,
+    variadic: bool,
+    tokens: &[Symbol],
+    left: usize,
+) -> Result<((Items<ParamExpr>, usize), &[Symbol]), Stop>
+    ensures { Gives (λ x. (x.0, x.1.now)) result (named_by variadic left (type_at left) names name tokens.now) }
+{
     let (param, rest) = shared_param(alloc, names, name, variadic, tokens, left)?;
     param_end(
         alloc,

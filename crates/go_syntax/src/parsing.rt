@@ -4,7 +4,7 @@ ghost use Rattle.go_syntax.specs.Files.{file_at};
 ghost use Rattle.go_syntax.specs.Decls.{IsFileOf};
 ghost use Rattle.go_syntax.specs.Outcomes.{IsFile};
 ghost use Rattle.go_syntax.specs.Source.{symbols_of, place_of};
-ghost use Rattle.go_syntax.specs.Parsing.{fault_of, answer_of, Tells, Answers};
+ghost use Rattle.go_syntax.specs.Parsing.{fault_of, answer_of, Tells, Answers, reading_of, IsReading};
 ghost use Rattle.go_syntax.specs.declared.tree.SourceFile.{SourceFile};
 
 use crate::faults::{Fault, Stop};
@@ -56,8 +56,8 @@ fn fault_of(src: &[u8], tokens: &[Token], fault: Fault) -> SyntaxFault
         Fault::Unexpected(left) => SyntaxFault::Unexpected {
             at: place(src, tokens, left),
         },
-        Fault::Deep(left) => SyntaxFault::LeftOut {
-            at: place(src, tokens, left),
+        Fault::Deep(_, at) => SyntaxFault::LeftOut {
+            at,
             what: What::Depth,
         },
         Fault::DotImport(left) => SyntaxFault::LeftOut {
@@ -104,8 +104,10 @@ pub fn parse(alloc: Global, src: &[u8], tokens: &[Token]) -> Result<SourceFile, 
     ensures only { (m : ℕ) (f : SourceFile) → IsFileOf m (symbols_of src.now tokens.now) f [] → m ≤ 1000 → Answers result f }
     // No path of what is answered is longer.
     ensures within { IfOk result (λ x. (m : ℕ) (f : SourceFile) → IsFileOf m (symbols_of src.now tokens.now) f [] → m ≤ 1000) }
-    // Each fault stands where it says.
+    // At each fault's place the tokens are what it says.
     ensures place { IfErr result (λ s. Tells src.now tokens.now s) }
+    // The file and each fault, with its place, are what reading from the front gives, unless memory ran out.
+    ensures exact { IsReading result (reading_of src.now tokens.now) }
 {
     answer_of(src, tokens, read_source(alloc, src, tokens))
 }

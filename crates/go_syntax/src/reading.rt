@@ -1,5 +1,6 @@
-ghost use Rattle.std.specs.Prelude.{◌≡◌, [], ◌∷◌, Ok, Err, IfOk};
-ghost use Rattle.go_syntax.specs.Reading.{past, starts, symbol_start, start_of, Exactly};
+ghost use Rattle.std.specs.Prelude.{◌≡◌, [], ◌∷◌, length, Ok, Err, IfOk};
+ghost use Rattle.go_syntax.specs.Reading.{past, starts, symbol_start, start_of, told_at, Reply, Exactly, Gives};
+ghost use Rattle.go_syntax.specs.declared.faults.Fault.TheVariants.{Deep};
 ghost use Rattle.go_syntax.specs.Kinds.{is_of};
 ghost use Rattle.go_syntax.specs.Params.{shows_types};
 ghost use Rattle.go_syntax.specs.Names.{ident_at};
@@ -143,7 +144,11 @@ fn shows_elem(symbol: Symbol) -> bool
 {
     matches!(
         symbol,
-        Symbol::Dot(_) | Symbol::Bar(_) | Symbol::Semicolon(_) | Symbol::CloseBrace(_)
+        Symbol::Dot(_)
+            | Symbol::OpenBracket(_)
+            | Symbol::Bar(_)
+            | Symbol::Semicolon(_)
+            | Symbol::CloseBrace(_)
     )
 }
 
@@ -286,6 +291,26 @@ pub(crate) fn start(tokens: &[Symbol]) -> u32
     match tokens {
         [first, ..] => symbol_start(*first),
         [] => 0,
+    }
+}
+
+/// With the next token a path is too long.
+pub(crate) fn too_deep(tokens: &[Symbol]) -> Fault
+    ensures { result ≡ Deep (length tokens.now) (start_of tokens.now) }
+{
+    Fault::Deep(tokens.len(), start(tokens))
+}
+
+/// The same answer, where a path that is too long is told at this place.
+pub(crate) fn told_at<T: Drop>(
+    at: u32,
+    answer: Result<(T, &[Symbol]), Stop>,
+) -> Result<(T, &[Symbol]), Stop>
+    ensures { (read : Reply T) → Gives (λ x. (x.0, x.1.now)) answer.entry read → Gives (λ x. (x.0, x.1.now)) result (told_at at read) }
+{
+    match answer {
+        Err(Stop::At(Fault::Deep(left, _))) => Err(Stop::At(Fault::Deep(left, at))),
+        answer => answer,
     }
 }
 

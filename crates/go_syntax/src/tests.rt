@@ -158,58 +158,6 @@ fn sources_have_trees_or_faults(rt: HostRuntime) -> Result<(), Fail> {
     Ok(())
 }
 
-/// What is shown of a type in which one byte comes so many times before the rest.
-fn repeated(alloc: Global, byte: u8, times: usize, rest: &[u8]) -> Result<String, AllocError> {
-    let mut src = Vec::new(alloc);
-    src.extend_from_slice(b"package p; type A ")?;
-    for _ in 0..times {
-        src.push(byte)?;
-    }
-    src.extend_from_slice(rest)?;
-    shown(alloc, &src)
-}
-
-#[test]
-fn a_thousand_nodes_are_read_and_no_more(rt: HostRuntime) -> Result<(), Fail> {
-    assert_eq!(rt; repeated(rt.alloc(), b'*', 999, b"B")?.as_str(), "ok 0 1");
-    assert_eq!(rt;
-        repeated(rt.alloc(), b'*', 1000, b"B")?.as_str(),
-        "LeftOut { at: 1018, what: Depth }"
-    );
-    assert_eq!(rt;
-        repeated(rt.alloc(), b'(', 1000, b"B")?.as_str(),
-        "LeftOut { at: 1018, what: Depth }"
-    );
-    Ok(())
-}
-
-/// Types in which a path has 1,000 nodes, or more: each with the token that shows it.
-const DEEP: [(usize, &[u8], &str); 6] = [
-    (998, b"interface { B }", "ok 0 1"),
-    (
-        998,
-        b"interface { B | C }",
-        "LeftOut { at: 1030, what: Depth }",
-    ),
-    (
-        998,
-        b"interface { ~B }",
-        "LeftOut { at: 1029, what: Depth }",
-    ),
-    (998, b"func(B, C)", "ok 0 1"),
-    (999, b"func(B, C)", "LeftOut { at: 1026, what: Depth }"),
-    (999, b"func() B", "LeftOut { at: 1024, what: Depth }"),
-];
-
-#[test]
-fn the_token_that_shows_the_depth_counts(rt: HostRuntime) -> Result<(), Fail> {
-    for (times, rest, expected) in &DEEP {
-        let found = repeated(rt.alloc(), b'*', *times, rest)?;
-        assert_eq!(rt; found.as_str(), *expected, "of {times} and {rest:?}");
-    }
-    Ok(())
-}
-
 /// The tree of a source, as it is printed.
 pub(crate) fn printed(alloc: Global, src: &[u8]) -> Result<String, AllocError> {
     if src.len() > 4000 {
@@ -228,7 +176,7 @@ pub(crate) fn printed(alloc: Global, src: &[u8]) -> Result<String, AllocError> {
 fn a_tree_has_its_places(rt: HostRuntime) -> Result<(), Fail> {
     let shown = printed(rt.alloc(), b"package p; type A struct { x, y *q.B \"t\" }")?;
     let ty =
-        "Pointer { ty: Boxed { inner: Name { name: NameExpr { package: Some(Ident { start: 33, end: 34 }), name: Ident { start: 35, end: 36 }, at: 33 }, at: 33 } }, at: 32 }";
+        "Pointer { ty: Boxed { inner: Name { name: NameExpr { package: Some(Ident { start: 33, end: 34 }), name: Ident { start: 35, end: 36 }, at: 33 }, args: Items { items: [] }, at: 33 } }, at: 32 }";
     let names = "Items { items: [Ident { start: 27, end: 28 }, Ident { start: 30, end: 31 }] }";
     let fields = format!(in rt.alloc();
         "Items {{ items: [FieldExpr {{ names: {names}, ty: {ty}, tag: Some(Span {{ start: 37, end: 40 }}), at: 27 }}] }}"

@@ -93,8 +93,10 @@ pub enum ElemExpr {
 #[cycle(syntax)]
 #[derive(Debug, Drop)]
 pub enum TypeExpr {
+    /// The name of a type, with the arguments of a generic one.
     Name {
         name: NameExpr,
+        args: Items<TypeExpr>,
         at: u32,
     },
     Paren {

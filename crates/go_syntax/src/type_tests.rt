@@ -1,6 +1,6 @@
-use crate::expression_tests::letter;
 use crate::function_tests::source;
 use crate::tests::{printed, shown};
+use std::alloc::{AllocError, Global};
 use std::test::Fail;
 
 /// Types within types, each with the number of declarations or the first fault, counted from the start of the
@@ -33,14 +33,23 @@ fn nested_types_have_trees_or_faults(rt: HostRuntime) -> Result<(), Fail> {
     Ok(())
 }
 
+/// A type whose name is one letter, as it is printed.
+pub(crate) fn named(alloc: Global, at: u32) -> Result<String, AllocError> {
+    let end = at.saturating_add(1);
+    let name = format!(in alloc;
+        "NameExpr {{ package: None, name: Ident {{ start: {at}, end: {end} }}, at: {at} }}"
+    )?;
+    format!(in alloc; "Name {{ name: {name}, args: Items {{ items: [] }}, at: {at} }}")
+}
+
 #[test]
 fn parameters_share_the_type_that_follows(rt: HostRuntime) -> Result<(), Fail> {
     let src = source(rt.alloc(), b"type A func(a, b B, c ...C) D")?;
     let found = printed(rt.alloc(), &src)?;
     let (b, c, d) = (
-        letter(rt.alloc(), 28)?,
-        letter(rt.alloc(), 36)?,
-        letter(rt.alloc(), 39)?,
+        named(rt.alloc(), 28)?,
+        named(rt.alloc(), 36)?,
+        named(rt.alloc(), 39)?,
     );
     let names = "Items { items: [Ident { start: 23, end: 24 }, Ident { start: 26, end: 27 }] }";
     let shared = format!(in rt.alloc();
@@ -64,7 +73,7 @@ fn parameters_share_the_type_that_follows(rt: HostRuntime) -> Result<(), Fail> {
 fn interfaces_have_methods_and_unions(rt: HostRuntime) -> Result<(), Fail> {
     let src = source(rt.alloc(), b"type A interface { M(); B | ~C }")?;
     let found = printed(rt.alloc(), &src)?;
-    let (b, c) = (letter(rt.alloc(), 35)?, letter(rt.alloc(), 40)?);
+    let (b, c) = (named(rt.alloc(), 35)?, named(rt.alloc(), 40)?);
     let sig = "SigExpr { params: Items { items: [] }, results: Items { items: [] }, at: 31 }";
     let method = format!(in rt.alloc();
         "Method {{ name: Ident {{ start: 30, end: 31 }}, sig: {sig}, at: 30 }}"

@@ -1,13 +1,15 @@
 ghost use Rattle.std.specs.Prelude.{◌≡◌, ◌<◌, Err};
-ghost use Rattle.go_syntax.specs.Reading.{Exactly, Gives};
-ghost use Rattle.go_syntax.specs.Types.{no_type, embedded_ident, star_by, star_at, embedded_by, shared_by, first_by, field_by, fields_at, struct_by, paren_by, bracket_by, map_by, chan_by, receive_by, func_by, type_by, type_at, lower_at};
+ghost use Rattle.go_syntax.specs.Reading.{told_at, Exactly, Gives};
+ghost use Rattle.go_syntax.specs.Types.{no_type, star_at, lone_by, shared_by, only_by, array_or_instance, first_by, field_by, fields_at, struct_by, paren_by, bracket_by, map_by, chan_by, receive_by, func_by, type_by, type_at, lower_at};
 
+use crate::either::after_fault;
 use crate::elements::interface_type;
 use crate::expressions::expression;
 use crate::faults::{Fault, Stop};
-use crate::names::{dotted, more_names, tag};
+use crate::instances::{begun_type, named_type};
+use crate::names::{more_names, tag};
 use crate::params::signature;
-use crate::reading::{Kind, ident, past, single, starts};
+use crate::reading::{Kind, past, single, start, starts, told_at, too_deep};
 use crate::symbols::{Ident, Symbol};
 use crate::tree::{FieldExpr, TypeExpr};
 use sqlite_items::{Boxed, Items};
@@ -18,79 +20,74 @@ fn no_type(tokens: &[Symbol]) -> Fault
     ensures { no_type tokens.now ≡ Err result }
 {
     if starts(Kind::TypeStart, tokens) {
-        Fault::Deep(tokens.len())
+        too_deep(tokens)
     } else {
         Fault::Unexpected(tokens.len())
     }
 }
 
-/// The name that an embedded type begins with, where this many nodes are left.
-fn embedded_ident(tokens: &[Symbol], left: usize) -> Result<(Ident, &[Symbol]), Fault>
-    ensures { Exactly (λ x. (x.0, x.1.now)) result (embedded_ident left tokens.now) }
+/// An embedded type, after its first identifier.
+#[cycle(types)]
+fn embedded_name(
+    alloc: Global,
+    first: Ident,
+    tokens: &[Symbol],
+    left: usize,
+) -> Result<((FieldExpr, usize), &[Symbol]), Stop>
+    ensures { Gives (λ x. (x.0, x.1.now)) result (lone_by left (type_at left) first tokens.now) }
 {
     if left == 0 {
-        if starts(Kind::Ident, tokens) {
-            return Err(Fault::Deep(tokens.len()));
-        }
-        return Err(Fault::Unexpected(tokens.len()));
+        return Err(Stop::At(too_deep(tokens)));
     }
-    ident(tokens)
+    let ((ty, fit), rest) = begun_type(alloc, first, tokens, left - 1)?;
+    let (tag, rest) = tag(rest);
+    let field = FieldExpr {
+        names: Items::new(alloc),
+        ty,
+        tag,
+        at: first.start,
+    };
+    Ok(((field, fit), rest))
 }
 
-/// An embedded pointer, after its star.
+/// The type to which an embedded pointer points, whose star stands at this place.
+#[cycle(types)]
+fn base_type(
+    alloc: Global,
+    at: u32,
+    tokens: &[Symbol],
+    left: usize,
+) -> Result<((TypeExpr, usize), &[Symbol]), Stop>
+    ensures { Gives (λ x. (x.0, x.1.now)) result (told_at at (type_at left tokens.now)) }
+{
+    told_at(at, type_expr(alloc, tokens, left))
+}
+
+/// An embedded pointer, after its star, which takes one of the nodes that are left.
+#[cycle(types)]
 fn embedded_pointer(
     alloc: Global,
     at: u32,
     tokens: &[Symbol],
     left: usize,
 ) -> Result<((FieldExpr, usize), &[Symbol]), Stop>
-    ensures { Gives (λ x. (x.0, x.1.now)) result (star_by left at tokens.now) }
+    requires { 0 < left }
+    ensures { Gives (λ x. (x.0, x.1.now)) result (star_at left (type_at left) at tokens.now) }
 {
-    let (first, rest) = embedded_ident(tokens, left)?;
-    let (name, rest) = dotted(first, rest)?;
+    if !starts(Kind::Ident, tokens) {
+        return Err(Stop::At(Fault::Unexpected(tokens.len())));
+    }
+    let ((base, fit), rest) = base_type(alloc, at, tokens, left - 1)?;
     let (tag, rest) = tag(rest);
-    let base = TypeExpr::Name { name, at: name.at };
-    let field = FieldExpr {
-        names: Items::new(alloc),
-        ty: TypeExpr::Pointer {
-            ty: Boxed::new(alloc, base)?,
-            at,
-        },
-        tag,
+    let ty = TypeExpr::Pointer {
+        ty: Boxed::new(alloc, base)?,
         at,
     };
-    Ok(((field, left.saturating_sub(1)), rest))
-}
-
-/// An embedded pointer, after its star, which takes one of the nodes that are left.
-fn star_field(
-    alloc: Global,
-    at: u32,
-    tokens: &[Symbol],
-    left: usize,
-) -> Result<((FieldExpr, usize), &[Symbol]), Stop>
-    requires { 0 < left }
-    ensures { Gives (λ x. (x.0, x.1.now)) result (star_at left at tokens.now) }
-{
-    embedded_pointer(alloc, at, tokens, left - 1)
-}
-
-/// An embedded type, after its first identifier, where this many nodes more would fit.
-fn embedded_name(
-    alloc: Global,
-    first: Ident,
-    tokens: &[Symbol],
-    fit: usize,
-) -> Result<((FieldExpr, usize), &[Symbol]), Fault>
-    ensures { Exactly (λ x. (x.0, x.1.now)) result (embedded_by fit first tokens.now) }
-{
-    let (name, rest) = dotted(first, tokens)?;
-    let (tag, rest) = tag(rest);
     let field = FieldExpr {
         names: Items::new(alloc),
-        ty: TypeExpr::Name { name, at: name.at },
+        ty,
         tag,
-        at: name.at,
+        at,
     };
     Ok(((field, fit), rest))
 }
@@ -112,6 +109,36 @@ fn shared_field(
     Ok(((field, fit), rest))
 }
 
+/// A field with one name, after the name.
+#[cycle(types)]
+fn only_field(
+    alloc: Global,
+    name: Ident,
+    tokens: &[Symbol],
+    left: usize,
+) -> Result<((FieldExpr, usize), &[Symbol]), Stop>
+    ensures { Gives (λ x. (x.0, x.1.now)) result (only_by (type_at left) name tokens.now) }
+{
+    let names = single(alloc, name)?;
+    shared_field(alloc, names, name.start, tokens, left)
+}
+
+/// A field that is an array or a slice, or an embedded type with arguments, after its first identifier.
+#[cycle(types)]
+fn array_or_instance(
+    alloc: Global,
+    first: Ident,
+    tokens: &[Symbol],
+    left: usize,
+) -> Result<((FieldExpr, usize), &[Symbol]), Stop>
+    ensures { Gives (λ x. (x.0, x.1.now)) result (array_or_instance left (type_at left) first tokens.now) }
+{
+    match only_field(alloc, first, tokens, left) {
+        Err(Stop::At(fault)) => after_fault(fault, embedded_name(alloc, first, tokens, left)),
+        read => read,
+    }
+}
+
 /// A field, after its first identifier.
 #[cycle(types)]
 fn first_field(
@@ -127,13 +154,12 @@ fn first_field(
         return shared_field(alloc, names, first.start, rest, left);
     }
     if starts(Kind::EmbeddedEnd, tokens) {
-        if left == 0 {
-            return Err(Stop::At(Fault::Deep(tokens.len())));
-        }
-        return Ok(embedded_name(alloc, first, tokens, left - 1)?);
+        return embedded_name(alloc, first, tokens, left);
     }
-    let names = single(alloc, first)?;
-    shared_field(alloc, names, first.start, tokens, left)
+    if starts(Kind::OpenBracket, tokens) {
+        return array_or_instance(alloc, first, tokens, left);
+    }
+    only_field(alloc, first, tokens, left)
 }
 
 /// A field of a struct.
@@ -151,9 +177,9 @@ fn one_field(
     match *first {
         Symbol::Star(at) => {
             if left == 0 {
-                return Err(Stop::At(Fault::Deep(tokens.len())));
+                return Err(Stop::At(too_deep(tokens)));
             }
-            star_field(alloc, at, rest, left)
+            embedded_pointer(alloc, at, rest, left)
         }
         Symbol::Ident(name) => first_field(alloc, name, rest, left),
         _ => Err(Stop::At(Fault::Unexpected(tokens.len()))),
@@ -343,10 +369,7 @@ fn type_inside(
         return Err(Stop::At(Fault::Unexpected(0)));
     };
     match *first {
-        Symbol::Ident(name) => {
-            let (name, rest) = dotted(name, rest)?;
-            Ok(((TypeExpr::Name { name, at: name.at }, left), rest))
-        }
+        Symbol::Ident(name) => named_type(alloc, name, rest, left),
         Symbol::OpenParen(at) => paren_type(alloc, at, rest, left),
         Symbol::Star(at) => {
             let ((ty, fit), rest) = type_expr(alloc, rest, left)?;
@@ -364,7 +387,8 @@ fn type_inside(
     }
 }
 
-/// A type with up to this many nodes on a path, and how many more its longest path might have.
+/// A type with up to this many nodes on a path, and how many more its longest path might have. A path that is
+/// too long is told at its first token.
 #[cycle(types)]
 pub(crate) fn type_expr(
     alloc: Global,
@@ -376,7 +400,7 @@ pub(crate) fn type_expr(
     if left == 0 {
         return Err(Stop::At(no_type(tokens)));
     }
-    type_inside(alloc, tokens, left - 1)
+    told_at(start(tokens), type_inside(alloc, tokens, left - 1))
 }
 
 /// A type that stands a node deeper.

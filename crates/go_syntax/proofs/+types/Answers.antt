@@ -4,13 +4,15 @@ use Rattle.go_syntax.specs.declared.params.Param.{Param}
 use Rattle.go_syntax.specs.declared.tree.FieldExpr.{FieldExpr}
 use Rattle.go_syntax.specs.declared.tree.ElemExpr.{ElemExpr}
 use Rattle.go_syntax.specs.declared.tree.TermExpr.{TermExpr}
-use Rattle.go_syntax.specs.Reading.{is_semicolon, is_comma, is_bar, is_close_brace, is_close_paren, Fit, with_fit}
+use Rattle.go_syntax.specs.declared.tree.TypeExpr.{TypeExpr}
+use Rattle.go_syntax.specs.Reading.{is_semicolon, is_comma, is_bar, is_close_brace, is_close_paren, is_close_bracket, series, Fit, with_fit}
 use Rattle.go_syntax.specs.Params.{param_at, params_row}
-use Rattle.go_syntax.specs.Elements.{term_at, terms_at, more_terms, elem_at, elems_at}
+use Rattle.go_syntax.specs.Elements.{type_list, term_at, terms_at, more_terms, elem_at, elems_at}
 use Rattle.go_syntax.specs.Types.{field_by, fields_at, type_at, lower_at}
 use Rattle.go_syntax.proofs.Turns.{fit_closed, fit_stops, fit_last, fit_stuck, fit_goes, fit_ends, fit_refuses, series_smaller, chain_stops, chain_done, chain_goes}
 use Rattle.go_syntax.proofs.TypeReads.{field_eats, param_eats, term_eats, elem_eats, type_none, type_some, lower_none, lower_is}
-use Rattle.go_syntax.proofs.ParamTurns.{from_open, from_goes, types_by_gives, elem_stops, elem_gives, union_of, terms_join}
+use Rattle.go_syntax.proofs.ParamTurns.{from_open, from_goes, union_of, terms_join}
+use Rattle.go_syntax.proofs.InstanceTurns.{type_eats, args_give, lone_stops, lone_gives, types_stop, types_give, star_stops, star_gives, elem_stops, union_stops, elem_gives}
 use Rattle.go_syntax.proofs.SmallFits.{fields_start, elems_start}
 use Rattle.go_syntax.proofs.+types.Goals as goal
 
@@ -155,12 +157,6 @@ params::params-loop-name-preserved t c =
     let n = c.args.left in
     rw c.in_ok-push.ensures.ok (sym (from_goes c.args.variadic n (type_at n) c.loop-name.names c.loop-name.rest.now c.in-Ok.name c.in-Ok.after.now c.in-Ok-past.next.now c.in-Ok.ensures c.in-Ok-past.ensures) ∙ c.loop-name.invariant)
 
-pub params::named_type-returns : goal.params::named_type-returns
-params::named_type-returns t c =
-    let n = c.args.left in
-    types_by_gives c.param_end.result (λ x. (x.0, x.1.now)) c.args.variadic n (type_at n) c.args.names.now c.args.name c.args.tokens.now c.in_ok-ty.ty c.in_ok-ty.rest.now c.in_ok-params.params c.name_param-param.result
-    c.if-left-eq0.false c.in_ok-ty.ensures c.in_ok-params.ensures c.name_param-param.ensures c.param_end.ensures
-
 pub elements::more_terms-returns-in_err-term : goal.elements::more_terms-returns-in_err-term
 elements::more_terms-returns-in_err-term t c =
     let n = c.args.left in
@@ -182,24 +178,19 @@ elements::more_terms-loop-terms-preserved t c =
     let n = c.args.left in
     rw (c.in_ok-push.ensures.ok, c.min-fit.ensures) (sym (terms_join c.loop-terms.terms c.loop-terms.fit c.args.at (c.in_ok-term.term, c.in_ok-term.inside) (terms_at (lower_at n) c.in-Ok.next.now)) ∙ chain_goes is_bar (λ (x : Fit TermExpr). (x.0 ∷ [], x.1)) (λ x xs. (x.0 ∷ xs.0, min x.1 xs.1)) (term_at (lower_at n)) (term_eats n) (λ xs. union_of (c.loop-terms.terms ++ xs.0) (min c.loop-terms.fit xs.1) c.args.at) c.loop-terms.rest.now (c.in_ok-term.term, c.in_ok-term.inside) c.in_ok-term.after.now c.in-Ok.next.now (more_terms (lower_at n) c.args.first c.args.at c.args.tokens.now) c.in_ok-term.ensures c.in-Ok.ensures c.loop-terms.invariant)
 
-pub elements::embedded_elem-returns-in_err-ty : goal.elements::embedded_elem-returns-in_err-ty
-elements::embedded_elem-returns-in_err-ty t c =
-    let n = c.args.left in
-    let p = err_from_is_err_and c.from_residual-in_err-ty.result c.from_residual-in_err-ty.ensures.1 in
-    rw (p.1, p.2) (elem_stops n (lower_at n) c.args.name c.args.tokens.now c.in_ok-x.x c.in_ok-x.rest.now c.in_err-ty.field-0.0 c.if-left-eq0.false c.in_ok-x.ensures c.in_err-ty.ensures)
-
-pub elements::embedded_elem-returns : goal.elements::embedded_elem-returns
-elements::embedded_elem-returns t c =
-    let n = c.args.left in
-    elem_gives n (lower_at n) c.args.name c.args.tokens.now c.in_ok-x.x c.in_ok-x.rest.now c.in_ok-ty.ty c.in_ok-ty.fit c.in_ok-ty.rest.now c.if-left-eq0.false c.in_ok-x.ensures c.in_ok-ty.ensures
-
 pub types::type_expr-returns-then-left-eq0 : goal.types::type_expr-returns-then-left-eq0
 types::type_expr-returns-then-left-eq0 t c =
     type_none c.args.left c.args.tokens.now c.if-left-eq0.true ∙ c.no_type.ensures
 
 pub types::type_expr-returns : goal.types::type_expr-returns
 types::type_expr-returns t c =
-    rw (type_some c.args.left c.args.tokens.now c.if-left-eq0.false) c.type_inside.ensures
+    rw (type_some c.args.left c.args.tokens.now c.if-left-eq0.false, sym c.start.ensures) (c.told_at.ensures _ c.type_inside.ensures)
+
+pub types::base_type-returns : goal.types::base_type-returns
+types::base_type-returns t c = c.told_at.ensures _ c.type_expr.ensures
+
+pub instances::begun_type-returns : goal.instances::begun_type-returns
+instances::begun_type-returns t c = c.told_at.ensures _ c.named_type.ensures
 
 pub types::lower_type-returns-then-left-eq0 : goal.types::lower_type-returns-then-left-eq0
 types::lower_type-returns-then-left-eq0 t c =
@@ -208,3 +199,96 @@ types::lower_type-returns-then-left-eq0 t c =
 pub types::lower_type-returns : goal.types::lower_type-returns
 types::lower_type-returns t c =
     rw (lower_is c.args.left c.args.tokens.now c.if-left-eq0.false) c.type_expr.ensures
+
+pub instances::arg_row-returns-in-Ok : goal.instances::arg_row-returns-in-Ok
+instances::arg_row-returns-in-Ok t c =
+    let n = c.args.left in
+    fit_closed n is_comma is_close_bracket (λ (x : Fit TypeExpr). false) (λ x. x.0) (λ x. x.1) (type_at n) (type_eats n) c.loop-after.args c.loop-after.fit c.loop-after.rest.now c.in-Ok.after.now (with_fit c.args.found (series (type_list n) (type_at n) c.args.tokens.now)) c.loop-after.invariant.small c.in-Ok.ensures c.loop-after.invariant.same
+
+pub instances::arg_row-returns-in_err-arg : goal.instances::arg_row-returns-in_err-arg
+instances::arg_row-returns-in_err-arg t c =
+    let n = c.args.left in
+    let p = err_from_is_err_and c.from_residual.result c.from_residual.ensures.1 in
+    rw (p.1, p.2) (fit_stops n is_comma is_close_bracket (λ (x : Fit TypeExpr). false) (λ x. x.0) (λ x. x.1) (type_at n) (type_eats n) c.loop-after.args c.loop-after.fit c.loop-after.rest.now c.in_default.field-0 c.in_err-arg.field-0.0 (with_fit c.args.found (series (type_list n) (type_at n) c.args.tokens.now)) c.in_default.ensures c.in_err-arg.ensures c.loop-after.invariant.same)
+
+pub instances::arg_row-returns-in-Ok-past : goal.instances::arg_row-returns-in-Ok-past
+instances::arg_row-returns-in-Ok-past t c =
+    let n = c.args.left in
+    rw (c.in_ok-push.ensures.ok, c.min-fit.ensures) (fit_last n is_comma is_close_bracket (λ (x : Fit TypeExpr). false) (λ x. x.0) (λ x. x.1) (type_at n) (type_eats n) c.loop-after.args c.loop-after.fit c.loop-after.rest.now c.in_default.field-0 (c.in_ok-arg.arg, c.in_ok-arg.inside) c.in_ok-arg.behind.now c.in-Ok-past.after.now (with_fit c.args.found (series (type_list n) (type_at n) c.args.tokens.now)) c.loop-after.invariant.small c.in_default.ensures c.in_ok-arg.ensures c.in-Ok-past.ensures c.loop-after.invariant.same)
+
+pub instances::arg_row-returns-in_err-rest : goal.instances::arg_row-returns-in_err-rest
+instances::arg_row-returns-in_err-rest t c =
+    let n = c.args.left in
+    let p = err_from_is_err_and c.from_residual-in_err-rest.result c.from_residual-in_err-rest.ensures.1 in
+    rw (p.1, p.2) (fit_stuck n is_comma is_close_bracket (λ (x : Fit TypeExpr). false) (λ x. x.0) (λ x. x.1) (type_at n) (type_eats n) c.loop-after.args c.loop-after.fit c.loop-after.rest.now c.in_default.field-0 (c.in_ok-arg.arg, c.in_ok-arg.inside) c.in_ok-arg.behind.now c.in_default-past.field-0 c.in_err-rest.field-0.0 (with_fit c.args.found (series (type_list n) (type_at n) c.args.tokens.now)) c.in_default.ensures c.in_ok-arg.ensures c.in_default-past.ensures c.in_err-rest.ensures c.loop-after.invariant.same)
+
+pub instances::arg_row-loop-after-smaller : goal.instances::arg_row-loop-after-smaller
+instances::arg_row-loop-after-smaller t c =
+    let n = c.args.left in
+    series_smaller is_comma (type_at n) (type_eats n) c.loop-after.rest.now (c.in_ok-arg.arg, c.in_ok-arg.inside) c.in_ok-arg.behind.now c.in_ok-rest.rest.now c.in_ok-arg.ensures c.in_ok-rest.ensures
+
+pub instances::arg_row-loop-after-preserved : goal.instances::arg_row-loop-after-preserved
+instances::arg_row-loop-after-preserved t c =
+    let n = c.args.left in
+    let less : min c.loop-after.fit c.in_ok-arg.inside ≤ n = omega (arith, c.loop-after.invariant.small) in
+    rw (c.in_ok-push.ensures.ok, c.min-fit.ensures) (record {
+      small = less;
+      same = fit_goes n is_comma is_close_bracket (λ (x : Fit TypeExpr). false) (λ x. x.0) (λ x. x.1) (type_at n) (type_eats n) c.loop-after.args c.loop-after.fit c.loop-after.rest.now c.in_default.field-0 (c.in_ok-arg.arg, c.in_ok-arg.inside) c.in_ok-arg.behind.now c.in_ok-rest.rest.now c.in_default-past.field-0 (with_fit c.args.found (series (type_list n) (type_at n) c.args.tokens.now)) refl c.in_default.ensures c.in_ok-arg.ensures c.in_default-past.ensures c.in_ok-rest.ensures c.loop-after.invariant.same;
+    })
+
+pub params::first_type-returns : goal.params::first_type-returns
+params::first_type-returns t c =
+    let n = c.args.left in
+    types_give c.param_end.result (λ x. (x.0, x.1.now)) c.args.variadic n c.args.names.now c.args.name c.args.tokens.now (c.in_ok-ty.ty, c.in_ok-ty.fit) c.in_ok-ty.rest.now c.in_ok-params.params c.bare_type-param.result
+    c.if-left-eq0.false c.in_ok-ty.ensures c.in_ok-params.ensures c.bare_type-param.ensures c.param_end.ensures
+
+pub elements::embedded_elem-returns-in_err-ty : goal.elements::embedded_elem-returns-in_err-ty
+elements::embedded_elem-returns-in_err-ty t c =
+    let n = c.args.left in
+    let p = err_from_is_err_and c.from_residual-in_err-ty.result c.from_residual-in_err-ty.ensures.1 in
+    rw (p.1, p.2) (union_stops n c.args.name c.args.tokens.now c.in_ok-first.first c.in_ok-first.rest.now c.in_err-ty.field-0.0 c.if-left-eq0.false c.in_ok-first.ensures c.in_err-ty.ensures)
+
+pub elements::embedded_elem-returns : goal.elements::embedded_elem-returns
+elements::embedded_elem-returns t c =
+    let n = c.args.left in
+    elem_gives n c.args.name c.args.tokens.now c.in_ok-first.first c.in_ok-first.rest.now c.in_ok-ty.ty c.in_ok-ty.fit c.in_ok-ty.rest.now c.if-left-eq0.false c.in_ok-first.ensures c.in_ok-ty.ensures
+
+pub elements::embedded_elem-returns-in_err-first : goal.elements::embedded_elem-returns-in_err-first
+elements::embedded_elem-returns-in_err-first t c =
+    let n = c.args.left in
+    let p = err_from_is_err_and c.from_residual.result c.from_residual.ensures.1 in
+    rw (p.1, p.2) (elem_stops n c.args.name c.args.tokens.now c.in_err-first.field-0.0 c.if-left-eq0.false c.in_err-first.ensures)
+
+pub params::first_type-returns-in_err-ty : goal.params::first_type-returns-in_err-ty
+params::first_type-returns-in_err-ty t c =
+    let n = c.args.left in
+    let p = err_from_is_err_and c.from_residual.result c.from_residual.ensures.1 in
+    rw (p.1, p.2) (types_stop c.args.variadic n c.args.names.now c.args.name c.args.tokens.now c.in_err-ty.field-0.0 c.if-left-eq0.false c.in_err-ty.ensures)
+
+pub types::embedded_name-returns-in_err-ty : goal.types::embedded_name-returns-in_err-ty
+types::embedded_name-returns-in_err-ty t c =
+    let n = c.args.left in
+    let p = err_from_is_err_and c.from_residual.result c.from_residual.ensures.1 in
+    rw (p.1, p.2) (lone_stops n c.args.first c.args.tokens.now c.in_err-ty.field-0.0 c.if-left-eq0.false c.in_err-ty.ensures)
+
+pub types::embedded_name-returns : goal.types::embedded_name-returns
+types::embedded_name-returns t c =
+    let n = c.args.left in
+    rw (lone_gives n c.args.first c.args.tokens.now (c.in_ok-ty.ty, c.in_ok-ty.fit) c.in_ok-ty.rest.now c.if-left-eq0.false c.in_ok-ty.ensures, c.tag-tag.ensures, c.new.ensures) refl
+
+pub types::embedded_pointer-returns-in_err-base : goal.types::embedded_pointer-returns-in_err-base
+types::embedded_pointer-returns-in_err-base t c =
+    let n = c.args.left in
+    let p = err_from_is_err_and c.from_residual.result c.from_residual.ensures.1 in
+    rw (p.1, p.2) (star_stops n c.args.at c.args.tokens.now c.in_err-base.field-0.0 (λ e. omega arith) (sym c.if-not-starts.ensures) c.in_err-base.ensures)
+
+pub types::embedded_pointer-returns : goal.types::embedded_pointer-returns
+types::embedded_pointer-returns t c =
+    let n = c.args.left in
+    rw (star_gives n c.args.at c.args.tokens.now (c.in_ok-base.base, c.in_ok-base.fit) c.in_ok-base.rest.now (λ e. omega arith) (sym c.if-not-starts.ensures) c.in_ok-base.ensures, c.tag-tag.ensures, c.new-2.ensures, c.in_ok-new.ensures) refl
+
+pub instances::type_args-returns : goal.instances::type_args-returns
+instances::type_args-returns t c =
+    let n = c.args.left in
+    args_give c.arg_row.result (λ x. (x.0, x.1.now)) n c.args.tokens.now (c.in_ok-first.first, c.in_ok-first.fit) c.in_ok-first.rest.now c.in_ok-rest.rest.now c.in_default.field-0 c.in_ok-args.args c.min-fit.result
+    c.in_ok-first.ensures c.in_default.ensures c.in_ok-rest.ensures c.in_ok-args.ensures c.min-fit.ensures c.arg_row.ensures

@@ -1,0 +1,105 @@
+ghost use Rattle.std.specs.Prelude.{◌≡◌, ◌≤◌};
+ghost use Rattle.go_syntax.specs.Reading.{told_at, Gives, with_fit, series};
+ghost use Rattle.go_syntax.specs.Elements.{type_list, types_at, args_by, name_by};
+ghost use Rattle.go_syntax.specs.Types.{type_at};
+
+use crate::faults::Stop;
+use crate::names::dotted;
+use crate::reading::{Kind, past, single, told_at};
+use crate::symbols::{Ident, Symbol};
+use crate::tree::{NameExpr, TypeExpr};
+use crate::types::type_expr;
+use sqlite_items::Items;
+use std::alloc::Global;
+
+/// Type arguments up to the bracket that closes, after those that were found.
+#[cycle(types)]
+fn arg_row(
+    alloc: Global,
+    found: (Items<TypeExpr>, usize),
+    tokens: &[Symbol],
+    left: usize,
+) -> Result<((Items<TypeExpr>, usize), &[Symbol]), Stop>
+    requires { found.1 ≤ left }
+    ensures { Gives (λ x. (x.0, x.1.now)) result (with_fit found (series (type_list left) (type_at left) tokens.now)) }
+{
+    let (mut args, mut fit) = found;
+    let mut rest = tokens;
+    loop {
+        if let Ok(after) = past(Kind::CloseBracket, rest) {
+            return Ok(((args, fit), after));
+        }
+        let ((arg, inside), behind) = type_expr(alloc, rest, left)?;
+        fit = fit.min(inside);
+        args.push(arg)?;
+        if let Ok(after) = past(Kind::CloseBracket, behind) {
+            return Ok(((args, fit), after));
+        }
+        rest = past(Kind::Comma, behind)?;
+    }
+}
+
+/// Type arguments up to the bracket that closes, one at least.
+#[cycle(types)]
+fn type_args(
+    alloc: Global,
+    tokens: &[Symbol],
+    left: usize,
+) -> Result<((Items<TypeExpr>, usize), &[Symbol]), Stop>
+    ensures { Gives (λ x. (x.0, x.1.now)) result (types_at left (type_at left) tokens.now) }
+{
+    let ((first, fit), rest) = type_expr(alloc, tokens, left)?;
+    let fit = fit.min(left);
+    let args = single(alloc, first)?;
+    if let Ok(after) = past(Kind::CloseBracket, rest) {
+        return Ok(((args, fit), after));
+    }
+    let rest = past(Kind::Comma, rest)?;
+    arg_row(alloc, (args, fit), rest, left)
+}
+
+/// The arguments of a generic type, if they come next after its name.
+#[cycle(types)]
+fn with_args(
+    alloc: Global,
+    name: NameExpr,
+    tokens: &[Symbol],
+    left: usize,
+) -> Result<((TypeExpr, usize), &[Symbol]), Stop>
+    ensures { Gives (λ x. (x.0, x.1.now)) result (args_by left (type_at left) name tokens.now) }
+{
+    let at = name.at;
+    if let Ok(rest) = past(Kind::OpenBracket, tokens) {
+        let ((args, fit), rest) = type_args(alloc, rest, left)?;
+        return Ok(((TypeExpr::Name { name, args, at }, fit), rest));
+    }
+    let args = Items::new(alloc);
+    Ok(((TypeExpr::Name { name, args, at }, left), tokens))
+}
+
+/// The name of a type with its arguments, after its first identifier, where this many nodes are left for them.
+#[cycle(types)]
+pub(crate) fn named_type(
+    alloc: Global,
+    first: Ident,
+    tokens: &[Symbol],
+    left: usize,
+) -> Result<((TypeExpr, usize), &[Symbol]), Stop>
+    ensures { Gives (λ x. (x.0, x.1.now)) result (name_by left (type_at left) first tokens.now) }
+{
+    let (name, rest) = dotted(first, tokens)?;
+    with_args(alloc, name, rest, left)
+}
+
+/// A type that begins with this identifier, after it, which tells a path that is too long.
+#[cycle(types)]
+pub(crate) fn begun_type(
+    alloc: Global,
+    first: Ident,
+    tokens: &[Symbol],
+    left: usize,
+) -> Result<((TypeExpr, usize), &[Symbol]), Stop>
+    ensures { Gives (λ x. (x.0, x.1.now)) result (told_at first.start (name_by left (type_at left) first tokens.now)) }
+{
+    told_at(first.start, named_type(alloc, first, tokens, left))
+}
