@@ -5,7 +5,7 @@ use Rattle.go_syntax.specs.declared.symbols.Symbol.TheVariants as t
 use Rattle.go_syntax.specs.declared.symbols.Ident.{Ident}
 use Rattle.go_syntax.specs.declared.faults.Fault.TheVariants.{Unexpected, Deep, DotImport, Call}
 use Rattle.go_syntax.specs.declared.tree.NameExpr.{NameExpr}
-use Rattle.go_syntax.specs.Reading.{Reply, told_at, from_start, ◌>>=◌, past, choose, starts, is_dot, is_comma, Shape, series_end, series_by, series_item, series, rows, row, chain_end, chain, Fit, start_of, placed}
+use Rattle.go_syntax.specs.Reading.{Reply, told_at, ◌>>=◌, past, choose, starts, is_dot, is_comma, Shape, series_end, series_by, series_item, series, rows, row, chain_end, chain, Fit, start_of, placed}
 use Rattle.go_syntax.specs.Names.{plain, IsTypeName, own, of_package, IsNames, one, more, selected_by, dotted, names_more, names_at}
 use Rattle.go_syntax.proofs.NameReads.{after_ident}
 use Rattle.go_syntax.proofs.Rows.{Eats, series_is, chain_is}

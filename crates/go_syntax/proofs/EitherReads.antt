@@ -1,13 +1,13 @@
 -- What a choice between two readings does, where both do so.
 use Rattle.std.proofs.lemmas.List.{append-nil}
-use Rattle.std.proofs.Common.{Option, Some, None, ◌==◌, ◌≡◌, ℕ, suc, ◌+◌, ◌≤◌, ◌<◌, nat_le, Bool, true, false, if◌then◌else◌, List, [], ◌∷◌, ◌++◌, length, Ok, Err, refl, sym, ap, subst, ◌∙◌, append_assoc, arith, length-append}
+use Rattle.std.proofs.Common.{Option, Some, None, ◌==◌, ◌≡◌, ℕ, ◌+◌, ◌≤◌, ◌<◌, nat_le, Bool, true, false, if◌then◌else◌, List, [], ◌∷◌, ◌++◌, length, Ok, Err, refl, sym, ap, subst, ◌∙◌, append_assoc, arith, length-append}
 use Rattle.std.proofs.lemmas.Bool.{leb-true, leb-false, le-leb, eqb-true, eq-eqb}
 use Rattle.go_syntax.specs.declared.symbols.Symbol.{Symbol}
 use Rattle.go_syntax.specs.declared.faults.Fault.{Fault}
 use Rattle.go_syntax.specs.declared.faults.Fault.TheVariants.{Unexpected, Deep, DotImport, Call}
 use Rattle.go_syntax.specs.Reading.{Reply}
 use Rattle.go_syntax.specs.Either.{needed, began_here, or_at, instead_of, after_fault, either}
-use Rattle.go_syntax.proofs.Viable.{ahead, ahead_along, moved, ReadOk, ReadNot, ReadsAt}
+use Rattle.go_syntax.proofs.Viable.{ahead, ahead_along, moved, ReadNot, ReadsAt}
 
 -- of two beginnings of a list, the one that leaves less goes on with the other
 pub goes_further : (a b c d : List Symbol) → a ++ b ≡ c ++ d → length d ≤ length b → (mid : List Symbol) × (c ≡ a ++ mid) × (b ≡ mid ++ d)

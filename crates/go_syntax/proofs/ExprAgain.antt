@@ -2,7 +2,6 @@
 use Rattle.std.proofs.Common.{◌≡◌, ℕ, zero, suc, ◌<◌, ◌≤◌, ◌==◌, ◌-◌, min, max, Bool, true, false, if◌then◌else◌, List, [], ◌∷◌, length, Option, Some, None, Ok, Err, refl, sym, ap, subst, ◌∙◌, arith}
 use Rattle.std.proofs.lemmas.Bool.{eqb-true, eq-eqb}
 use Rattle.go_lexer.specs.declared.token_kinds.Token.{Token}
-use Rattle.go_syntax.specs.declared.symbols.Span.{Span}
 use Rattle.go_syntax.specs.declared.symbols.Operator.{Operator}
 use Rattle.go_syntax.specs.declared.symbols.Symbol.{Symbol}
 use Rattle.go_syntax.specs.declared.symbols.Symbol.TheVariants as t
@@ -10,10 +9,10 @@ use Rattle.go_syntax.specs.declared.symbols.Ident.{Ident}
 use Rattle.go_syntax.specs.declared.faults.Fault.TheVariants.{Unexpected, Deep, DotImport, Call}
 use Rattle.go_syntax.specs.declared.tree.NameExpr.{NameExpr}
 use Rattle.go_syntax.specs.declared.expressions.Operand.{Operand}
-use Rattle.go_syntax.specs.Reading.{Reply, ◌>>=◌, unexpected, too_deep, starts, is_dot, is_close_paren, is_close_bracket, symbol_start, start_of}
+use Rattle.go_syntax.specs.Reading.{Quoted, Reply, ◌>>=◌, unexpected, too_deep, starts, is_dot, is_close_paren, is_close_bracket, symbol_start, start_of}
 use Rattle.go_syntax.specs.Names.{own, of_package, dotted}
 use Rattle.go_syntax.specs.Expressions as ex
-use Rattle.go_syntax.specs.Expressions.{level, is_unary, between_of, text_token, literal, constant, conversion, enclosed, unary, binary, IsExpr}
+use Rattle.go_syntax.specs.Expressions.{level, is_unary, between_of, literal, constant, conversion, enclosed, unary, binary, IsExpr}
 use Rattle.go_syntax.specs.Operands.{Sized, Reader, uncalled, converted, named_by, enclosed_end, operator_if, operator_at, pick, climb_on, climb, level_by, begins_expr, expr_of, expr_at}
 use Rattle.go_syntax.proofs.Agreeing.{Agrees, agrees_bind, name_again}
 use Rattle.go_syntax.proofs.ExprReads.{climb_is}
@@ -100,10 +99,10 @@ unfolding expr_of
 literal_again zero token rest e = omega arith
 literal_again (suc n) token rest e = rw (uncalled_is (literal token, n) rest e) (spared (literal token) n, refl, omega arith)
 
-text_again : (n : ℕ) (s : Span) (rest : List Symbol) → Closed rest → Agrees n 1 (literal (text_token s), n - 1) rest (expr_of n 0 (t.Text s ∷ rest))
+text_again : (n : ℕ) (s : Quoted) (rest : List Symbol) → Closed rest → Agrees n 1 (literal s.0, n - 1) rest (expr_of n 0 (t.Text s ∷ rest))
 unfolding expr_of
 text_again zero s rest e = omega arith
-text_again (suc n) s rest e = rw (uncalled_is (literal (text_token s), n) rest e) (spared (literal (text_token s)) n, refl, omega arith)
+text_again (suc n) s rest e = rw (uncalled_is (literal s.0, n) rest e) (spared (literal s.0) n, refl, omega arith)
 
 constant_again : (n : ℕ) (i : Ident) (us : List Symbol) (x : NameExpr) (rest : List Symbol) → dotted i us ≡ Ok (x, rest) → Closed rest → Agrees n 1 (constant x, n - 1) rest (expr_of n 0 (t.Ident i ∷ us))
 unfolding expr_of

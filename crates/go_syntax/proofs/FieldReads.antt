@@ -1,5 +1,5 @@
 -- What the readers of fields do.
-use Rattle.std.proofs.Common.{◌≡◌, ℕ, zero, suc, max, true, List, [], ◌∷◌, None, refl, sym, subst, ◌∙◌}
+use Rattle.std.proofs.Common.{◌≡◌, ℕ, zero, suc, max, true, List, [], ◌∷◌, refl, sym, subst, ◌∙◌}
 use Rattle.go_syntax.specs.declared.symbols.Symbol.{Symbol}
 use Rattle.go_syntax.specs.declared.symbols.Symbol.TheVariants as t
 use Rattle.go_syntax.specs.declared.symbols.Ident.{Ident}
@@ -23,7 +23,7 @@ shared_reads : (inner : List Symbol → Reply (Fit TypeExpr)) → ((us : List Sy
     → ReadsAt (After IsNames FieldAt (i ∷ names)) (shared_by inner (i ∷ names) i.start) ts (shared_by inner (i ∷ names) i.start ts)
 shared_reads inner h i names ts =
     bind_reads TypeAt (After IsNames FieldAt (i ∷ names)) inner (λ ty vs. tagged (i ∷ names) ty i.start vs) ts
-    (λ ty. record { tokens = []; made = (field (i ∷ names) ty.0 None i.start, ty.1); stands = λ tail us w vs v. (w.0, g.shared w.0 i names vs us ty.0 tail None tail v w.1 (none tail)) })
+    (λ ty. record { tokens = []; made = (field (i ∷ names) ty.0 [] i.start, ty.1); stands = λ tail us w vs v. (w.0, g.shared w.0 i names vs us ty.0 tail [] tail v w.1 (none tail)) })
     (λ ty vs o. value_reads IsTag (After TypeAt (After IsNames FieldAt (i ∷ names)) ty) tag_at (λ tag. (field (i ∷ names) ty.0 tag i.start, ty.1)) vs
     (λ ws tag rest q us w us' v. (w.0, g.shared w.0 i names us' us ty.0 ws tag rest v w.1 q)) (tag_at vs) (tag_reads vs))
     (inner ts) (h ts)
@@ -41,10 +41,10 @@ flat_reads inner h i ts =
     bind_reads IsNames (Past comma (Behind (t.Ident i) FieldAt)) names_at (λ names us. shared_by inner (i ∷ names) i.start us) ts
     (λ names. record {
       tokens = t.Ident any_ident ∷ [];
-      made = (field (i ∷ names) (named (plain any_ident)) None i.start, 0);
+      made = (field (i ∷ names) (named (plain any_ident)) [] i.start, 0);
       stands = λ tail us w c. (
         1,
-        g.shared 1 i names (t.Ident i ∷ t.Comma c ∷ us) (t.Ident any_ident ∷ tail) (named (plain any_ident)) tail None tail
+        g.shared 1 i names (t.Ident i ∷ t.Comma c ∷ us) (t.Ident any_ident ∷ tail) (named (plain any_ident)) tail [] tail
             (more i c us names (t.Ident any_ident ∷ tail) w) (name_stands any_ident tail) (none tail),
       );
     })
@@ -61,10 +61,10 @@ more_reads inner h i ts =
 lone_reads : (n : ℕ) (inner : List Symbol → Reply (Fit TypeExpr)) → Begun n inner → (i : Ident) (ts : List Symbol) → ReadsAt (Behind (t.Ident i) FieldAt) (lone_by n inner i) ts (lone_by n inner i ts)
 lone_reads zero inner b i ts =
     deep_reads (Behind (t.Ident i) FieldAt) ts
-    (record { tokens = []; made = (field [] (named (plain i)) None i.start, 0); stands = λ tail. (1, g.embedded 1 (t.Ident i ∷ tail) (named (plain i)) tail None tail (plain_stands i tail) (none tail)) })
+    (record { tokens = []; made = (field [] (named (plain i)) [] i.start, 0); stands = λ tail. (1, g.embedded 1 (t.Ident i ∷ tail) (named (plain i)) tail [] tail (plain_stands i tail) (none tail)) })
 lone_reads (suc n) inner b i ts =
     bind_reads (Behind (t.Ident i) NamedAt) (Behind (t.Ident i) FieldAt) (λ r. inner (t.Ident i ∷ r)) (λ ty us. tagged [] ty i.start us) ts
-    (λ ty. record { tokens = []; made = (field [] ty.0 None i.start, ty.1); stands = λ tail us w. (w.0, g.embedded w.0 (t.Ident i ∷ us) ty.0 tail None tail w.1 (none tail)) })
+    (λ ty. record { tokens = []; made = (field [] ty.0 [] i.start, ty.1); stands = λ tail us w. (w.0, g.embedded w.0 (t.Ident i ∷ us) ty.0 tail [] tail w.1 (none tail)) })
     (λ ty us o. value_reads IsTag (After (Behind (t.Ident i) NamedAt) (Behind (t.Ident i) FieldAt) ty) tag_at (λ tag. (field [] ty.0 tag i.start, ty.1)) us
     (λ vs tag rest q us' w. (w.0, g.embedded w.0 (t.Ident i ∷ us') ty.0 vs tag rest w.1 q)) (tag_at us) (tag_reads us))
     (inner (t.Ident i ∷ ts)) (b.ident i ts (λ (e : suc n ≡ 0). absurd cc))
@@ -118,7 +118,7 @@ pointed_reads n inner b z at ts e =
 tagged_star : (n : ℕ) (inner : List Symbol → Reply (Fit TypeExpr)) → Begun n inner → (n ≡ 0 → ⊥) → (at : ℕ) (ts : List Symbol) → starts is_ident ts ≡ true → ReadsAt (Behind (t.Star at) FieldAt) (embedded_by inner (t.Star at)) ts (embedded_by inner (t.Star at) ts)
 tagged_star n inner b z at ts e =
     bind_reads (StarAt at) (Behind (t.Star at) FieldAt) (λ r. inner (t.Star at ∷ r)) (λ ty us. tagged [] ty at us) ts
-    (λ ty. record { tokens = []; made = (field [] ty.0 None at, ty.1); stands = λ tail us w. rw w.2 (suc w.0, g.embedded_pointer w.0 at us w.1 tail None tail w.3 (none tail)) })
+    (λ ty. record { tokens = []; made = (field [] ty.0 [] at, ty.1); stands = λ tail us w. rw w.2 (suc w.0, g.embedded_pointer w.0 at us w.1 tail [] tail w.3 (none tail)) })
     (λ ty us o. value_reads IsTag (After (StarAt at) (Behind (t.Star at) FieldAt) ty) tag_at (λ tag. (field [] ty.0 tag at, ty.1)) us
     (λ vs tag rest q us' w. rw w.2 (suc w.0, g.embedded_pointer w.0 at us' w.1 vs tag rest w.3 q)) (tag_at us) (tag_reads us))
     (inner (t.Star at ∷ ts)) (pointed_reads n inner b z at ts e)
@@ -129,8 +129,8 @@ star_reads n inner b z at ts =
     (λ s. tagged_star n inner b z at ts s)
     (λ s. stuck_reads (Behind (t.Star at) FieldAt) ts (record {
       tokens = t.Ident any_ident ∷ [];
-      made = (field [] (y.Pointer (named (plain any_ident)) at) None at, 0);
-      stands = λ tail. (2, g.embedded_pointer 1 at (t.Ident any_ident ∷ tail) (named (plain any_ident)) tail None tail (plain_stands any_ident tail) (none tail));
+      made = (field [] (y.Pointer (named (plain any_ident)) at) [] at, 0);
+      stands = λ tail. (2, g.embedded_pointer 1 at (t.Ident any_ident ∷ tail) (named (plain any_ident)) tail [] tail (plain_stands any_ident tail) (none tail));
     }))
 
 star_field_reads : (n : ℕ) (inner : List Symbol → Reply (Fit TypeExpr)) → Begun n inner → (at : ℕ) (ts : List Symbol) → ReadsAt FieldAt (field_by n inner) (t.Star at ∷ ts) (star_at n inner at ts)

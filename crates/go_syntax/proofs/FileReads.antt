@@ -1,16 +1,16 @@
 -- What the readers of declarations and files do.
 use Rattle.std.proofs.Common.{◌≡◌, ℕ, max, ◌<◌, ◌≤◌, true, List, [], ◌∷◌, length, Some, None, Ok, refl, sym, subst, arith}
+use Rattle.go_lexer.specs.declared.token_kinds.TokenKind.TheVariants as kind
 use Rattle.go_syntax.specs.declared.symbols.Symbol.{Symbol}
 use Rattle.go_syntax.specs.declared.symbols.Symbol.TheVariants as t
 use Rattle.go_syntax.specs.declared.symbols.Ident.{Ident}
-use Rattle.go_syntax.specs.declared.symbols.Span.{Span}
 use Rattle.go_syntax.specs.declared.faults.Fault.TheVariants.{DotImport}
 use Rattle.go_syntax.specs.declared.tree.Import.{Import}
 use Rattle.go_syntax.specs.declared.tree.Top.{Top}
 use Rattle.go_syntax.specs.declared.tree.Top.TheVariants as top
 use Rattle.go_syntax.specs.declared.tree.FuncDecl.{FuncDecl}
 use Rattle.go_syntax.specs.declared.tree.SourceFile.{SourceFile}
-use Rattle.go_syntax.specs.Reading.{Reply, ◌>>=◌, past, choose, is_package, is_semicolon, is_comma, is_assign, is_import, is_var, is_type, is_const, is_func}
+use Rattle.go_syntax.specs.Reading.{Quoted, Reply, ◌>>=◌, past, choose, is_package, is_semicolon, is_comma, is_assign, is_import, is_var, is_type, is_const, is_func}
 use Rattle.go_syntax.specs.Names.{IsNames, one, more, ident_at, names_at}
 use Rattle.go_syntax.specs.Types.{type_at}
 use Rattle.go_syntax.specs.Skipped.{IsSkipped, skip}
@@ -35,11 +35,11 @@ use Rattle.go_syntax.proofs.Groups.{Any, group_reads, decl_same, decl_reads}
 
 -- ---- imports
 
-abbrev IsText : List Symbol → Span → List Symbol → Type 0
+abbrev IsText : List Symbol → Quoted → List Symbol → Type 0
 IsText ts s rest = ts ≡ t.Text s ∷ rest
 
-abbrev any_text : Span
-any_text = record { start = 0; end = 0 }
+abbrev any_text : Quoted
+any_text = (record { kind = kind.Text; start = 0; end = 0 }, [])
 
 some_text : Sample IsText
 some_text = record { tokens = t.Text any_text ∷ []; made = any_text; stands = λ tail. refl }

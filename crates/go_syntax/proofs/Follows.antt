@@ -1,8 +1,7 @@
 -- What may come next, and what it isn't.
-use Rattle.std.proofs.Common.{◌≡◌, ℕ, Bool, true, false, List, [], ◌∷◌, Option, None, Ok, refl}
+use Rattle.std.proofs.Common.{◌≡◌, ℕ, Bool, true, false, List, [], ◌∷◌, Ok, refl}
 use Rattle.go_syntax.specs.declared.symbols.Symbol.{Symbol}
 use Rattle.go_syntax.specs.declared.symbols.Symbol.TheVariants as t
-use Rattle.go_syntax.specs.declared.symbols.Span.{Span}
 use Rattle.go_syntax.specs.declared.tree.FieldExpr.{FieldExpr}
 use Rattle.go_syntax.specs.declared.tree.ParamExpr.{ParamExpr}
 use Rattle.go_syntax.specs.declared.tree.SigExpr.{SigExpr}
@@ -208,7 +207,7 @@ ends_embedded (t.Semicolon s) e = refl
 ends_embedded (t.CloseBrace s) e = refl
 ends_embedded _ e = absurd cc
 
-ends_tag : (k : Symbol) (ts : List Symbol) → ends_field k ≡ true → tag_at (k ∷ ts) ≡ Ok (None, k ∷ ts)
+ends_tag : (k : Symbol) (ts : List Symbol) → ends_field k ≡ true → tag_at (k ∷ ts) ≡ Ok ([], k ∷ ts)
 ends_tag (t.Semicolon s) ts e = refl
 ends_tag (t.CloseBrace s) ts e = refl
 ends_tag _ ts e = absurd cc
@@ -222,22 +221,22 @@ end_no_bar ts e = next_so ends_field is_bar true false ts ends_no_bar (λ d. ref
 pub end_shown : (ts : List Symbol) → starts ends_field ts ≡ true → starts shows_elem ts ≡ true
 end_shown ts e = next_so ends_field shows_elem true true ts ends_shown (λ d. d) e
 
-none_again : (r : List Symbol) → starts ends_field r ≡ true → tag_at r ≡ Ok (None, r)
+none_again : (r : List Symbol) → starts ends_field r ≡ true → tag_at r ≡ Ok ([], r)
 none_again [] e = absurd cc
 none_again (k ∷ us) e = ends_tag k us e
 
-pub tag_again : (ts : List Symbol) (tag : Option Span) (rest : List Symbol) → IsTag ts tag rest → starts ends_field rest ≡ true → tag_at ts ≡ Ok (tag, rest)
+pub tag_again : (ts : List Symbol) (tag : List ℕ) (rest : List Symbol) → IsTag ts tag rest → starts ends_field rest ≡ true → tag_at ts ≡ Ok (tag, rest)
 tag_again ts tag rest (none r) e = none_again r e
 tag_again ts tag rest (some s r) e = refl
 
-pub tag_free : (ts : List Symbol) (tag : Option Span) (rest : List Symbol) → IsTag ts tag rest → starts ends_field rest ≡ true → Free ts
+pub tag_free : (ts : List Symbol) (tag : List ℕ) (rest : List Symbol) → IsTag ts tag rest → starts ends_field rest ≡ true → Free ts
 tag_free ts tag rest (none r) e = end_free r e
 tag_free ts tag rest (some s r) e = refl
 
-pub tag_no_comma : (ts : List Symbol) (tag : Option Span) (rest : List Symbol) → IsTag ts tag rest → starts ends_field rest ≡ true → starts is_comma ts ≡ false
+pub tag_no_comma : (ts : List Symbol) (tag : List ℕ) (rest : List Symbol) → IsTag ts tag rest → starts ends_field rest ≡ true → starts is_comma ts ≡ false
 tag_no_comma ts tag rest (none r) e = next_so ends_field is_comma true false r ends_no_comma (λ h. refl) e
 tag_no_comma ts tag rest (some s r) e = refl
 
-pub tag_embedded : (ts : List Symbol) (tag : Option Span) (rest : List Symbol) → IsTag ts tag rest → starts ends_field rest ≡ true → starts shows_embedded ts ≡ true
+pub tag_embedded : (ts : List Symbol) (tag : List ℕ) (rest : List Symbol) → IsTag ts tag rest → starts ends_field rest ≡ true → starts shows_embedded ts ≡ true
 tag_embedded ts tag rest (none r) e = next_so ends_field shows_embedded true true r ends_embedded (λ h. h) e
 tag_embedded ts tag rest (some s r) e = refl

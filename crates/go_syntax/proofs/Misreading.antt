@@ -9,7 +9,7 @@ use Rattle.go_syntax.specs.declared.faults.Fault.TheVariants.{Unexpected, Deep, 
 use Rattle.go_syntax.specs.declared.tree.NameExpr.{NameExpr}
 use Rattle.go_syntax.specs.declared.tree.TypeExpr.{TypeExpr}
 use Rattle.go_syntax.specs.declared.tree.TypeExpr.TheVariants as y
-use Rattle.go_syntax.specs.Reading.{Reply, ◌>>=◌, told_at, unexpected, past, starts, begins_type, is_open_bracket, is_close_bracket, is_close_paren, Fit}
+use Rattle.go_syntax.specs.Reading.{Reply, ◌>>=◌, told_at, unexpected, starts, begins_type, is_open_bracket, Fit}
 use Rattle.go_syntax.specs.Either.{needed, instead_of, either}
 use Rattle.go_syntax.specs.Names.{dotted}
 use Rattle.go_syntax.specs.Grammar as g

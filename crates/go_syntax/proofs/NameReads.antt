@@ -1,10 +1,11 @@
 -- What the readers of names and tags do.
-use Rattle.std.proofs.Common.{◌≡◌, List, [], ◌∷◌, Some, None, Ok, Err, refl}
+use Rattle.std.proofs.Common.{◌≡◌, List, [], ◌∷◌, Ok, Err, refl}
 use Rattle.go_syntax.specs.declared.symbols.Symbol.{Symbol}
 use Rattle.go_syntax.specs.declared.symbols.Symbol.TheVariants as t
 use Rattle.go_syntax.specs.declared.symbols.Ident.{Ident}
 use Rattle.go_syntax.specs.declared.tree.NameExpr.{NameExpr}
 use Rattle.go_syntax.specs.Reading.{Reply, ◌>>=◌, is_dot}
+use Rattle.string_literals.specs.Values.{value_of}
 use Rattle.go_syntax.specs.Names.{plain, selected, IsTypeName, own, of_package, IsNames, one, more, IsTag, none, some, ident_at, tag_at, selected_by, dotted, names_more, names_end, names_at}
 use Rattle.go_syntax.proofs.Viable.{ReadsAt, Sample, Behind, Past, done_reads, refuse_next, refuse_end, next_is, ends_so, cons_reads, choose_reads, value_reads}
 use Rattle.go_syntax.proofs.Marks.{dot}
@@ -26,11 +27,11 @@ ident_reads (t.Ident i ∷ ts) =
 ident_reads (k ∷ ts) = refuse_next IsIdent ident_at k ts some_ident (λ r. refl)
 
 pub tag_reads : (ts : List Symbol) → ReadsAt IsTag tag_at ts (tag_at ts)
-tag_reads [] = done_reads IsTag tag_at [] None (λ tail. none tail) (ends_so (λ r. tag_at r ≡ Ok (None, r)) refl)
+tag_reads [] = done_reads IsTag tag_at [] [] (λ tail. none tail) (ends_so (λ r. tag_at r ≡ Ok ([], r)) refl)
 tag_reads (t.Text s ∷ ts) =
-    cons_reads IsTag tag_at (λ r. Ok (Some s, r)) (t.Text s) ts (Ok (Some s, ts)) (λ r. refl)
-    (done_reads (Behind (t.Text s) IsTag) (λ r. Ok (Some s, r)) ts (Some s) (λ tail. some s tail) (λ r e. refl))
-tag_reads (k ∷ ts) = done_reads IsTag tag_at (k ∷ ts) None (λ tail. none tail) (next_is (λ r. tag_at r ≡ Ok (None, r)) k (λ r. refl))
+    cons_reads IsTag tag_at (λ r. Ok (value_of s.1, r)) (t.Text s) ts (Ok (value_of s.1, ts)) (λ r. refl)
+    (done_reads (Behind (t.Text s) IsTag) (λ r. Ok (value_of s.1, r)) ts (value_of s.1) (λ tail. some s tail) (λ r e. refl))
+tag_reads (k ∷ ts) = done_reads IsTag tag_at (k ∷ ts) [] (λ tail. none tail) (next_is (λ r. tag_at r ≡ Ok ([], r)) k (λ r. refl))
 
 pub dotted_reads : (i : Ident) (ts : List Symbol) → ReadsAt (Behind (t.Ident i) IsTypeName) (dotted i) ts (dotted i ts)
 dotted_reads i ts =

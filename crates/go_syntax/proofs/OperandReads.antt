@@ -9,7 +9,7 @@ use Rattle.go_syntax.specs.declared.tree.NameExpr.{NameExpr}
 use Rattle.go_syntax.specs.Reading.{is_close_paren}
 use Rattle.go_syntax.specs.Names.{plain, IsTypeName, own, dotted}
 use Rattle.go_syntax.specs.Expressions as ex
-use Rattle.go_syntax.specs.Expressions.{is_unary, text_token, literal, constant, conversion, enclosed, unary, IsExpr}
+use Rattle.go_syntax.specs.Expressions.{is_unary, literal, constant, conversion, enclosed, unary, IsExpr}
 use Rattle.go_syntax.specs.Operands.{Sized, Reader, called, uncalled, goes_on, converted_end, converted, argument, convert_by, named_by, ident_by, enclosed_end, enclosed_by, signed, signed_by, operand_by}
 use Rattle.go_syntax.proofs.Viable.{next_is, ends_so, ReadsAt, Sample, Behind, Past, After, done_reads, refuse_reads, refuse_next, refuse_end, as_reads, cons_reads, past_reads, peek_reads, bind_reads, value_reads}
 use Rattle.go_syntax.proofs.Marks.{close_paren}
@@ -122,8 +122,8 @@ operand_reads n first inner g h (t.Literal token ∷ ts) =
     cons_reads (ExprAt 0) (operand_by n first inner) (uncalled (literal token, n)) (t.Literal token) ts (uncalled (literal token, n) ts) (λ r. refl)
     (uncalled_reads (Behind (t.Literal token) (ExprAt 0)) (literal token, n) ts (λ tail. (1, ex.a_literal token tail)))
 operand_reads n first inner g h (t.Text s ∷ ts) =
-    cons_reads (ExprAt 0) (operand_by n first inner) (uncalled (literal (text_token s), n)) (t.Text s) ts (uncalled (literal (text_token s), n) ts) (λ r. refl)
-    (uncalled_reads (Behind (t.Text s) (ExprAt 0)) (literal (text_token s), n) ts (λ tail. (1, ex.a_text s tail)))
+    cons_reads (ExprAt 0) (operand_by n first inner) (uncalled (literal s.0, n)) (t.Text s) ts (uncalled (literal s.0, n) ts) (λ r. refl)
+    (uncalled_reads (Behind (t.Text s) (ExprAt 0)) (literal s.0, n) ts (λ tail. (1, ex.a_text s tail)))
 operand_reads n first inner g h (t.Ident i ∷ ts) =
     cons_reads (ExprAt 0) (operand_by n first inner) (ident_by n inner i) (t.Ident i) ts (ident_by n inner i ts) (λ r. refl) (ident_reads n inner h i ts)
 operand_reads n first inner g h (t.OpenParen at ∷ ts) =

@@ -1,5 +1,5 @@
 -- What stands somewhere, of any number of nodes, and the least that does.
-use Rattle.std.proofs.Common.{◌≡◌, ℕ, Bool, List, [], ◌∷◌, ◌++◌, None, Ok, Err, refl, sym, ap, ◌∙◌, append_assoc}
+use Rattle.std.proofs.Common.{◌≡◌, ℕ, Bool, List, [], ◌∷◌, ◌++◌, Ok, Err, refl, sym, ap, ◌∙◌, append_assoc}
 use Rattle.go_syntax.specs.declared.symbols.Symbol.{Symbol}
 use Rattle.go_syntax.specs.declared.symbols.Symbol.TheVariants as t
 use Rattle.go_syntax.specs.declared.symbols.Ident.{Ident}
@@ -71,8 +71,8 @@ some_type = record { tokens = t.Ident any_ident ∷ []; made = (named (plain any
 abbrev pub some_field : Sample FieldAt
 some_field = record {
   tokens = t.Ident any_ident ∷ [];
-  made = (field [] (named (plain any_ident)) None 0, 0);
-  stands = λ tail. (1, g.embedded 1 (t.Ident any_ident ∷ tail) (named (plain any_ident)) tail None tail (plain_stands any_ident tail) (none tail));
+  made = (field [] (named (plain any_ident)) [] 0, 0);
+  stands = λ tail. (1, g.embedded 1 (t.Ident any_ident ∷ tail) (named (plain any_ident)) tail [] tail (plain_stands any_ident tail) (none tail));
 }
 
 -- ---- none of them stands of no tokens

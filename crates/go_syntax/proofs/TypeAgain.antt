@@ -1,5 +1,5 @@
 -- A type that is written is read again.
-use Rattle.std.proofs.Common.{◌≡◌, ℕ, zero, suc, ◌-◌, ◌≤◌, min, max, Bool, true, false, Option, List, [], ◌∷◌, ◌++◌, map, length, Ok, Err, refl, sym, ap, subst, ◌∙◌, arith}
+use Rattle.std.proofs.Common.{◌≡◌, ℕ, zero, suc, ◌-◌, ◌≤◌, min, max, Bool, true, false, List, [], ◌∷◌, ◌++◌, map, length, Ok, Err, refl, sym, ap, subst, ◌∙◌, arith}
 use Rattle.go_syntax.specs.declared.symbols.Symbol.{Symbol}
 use Rattle.go_syntax.specs.declared.symbols.Symbol.TheVariants as t
 use Rattle.go_syntax.specs.declared.symbols.Ident.{Ident}
@@ -13,8 +13,7 @@ use Rattle.go_syntax.specs.declared.tree.ElemExpr.{ElemExpr}
 use Rattle.go_syntax.specs.declared.tree.ElemExpr.TheVariants as elem
 use Rattle.go_syntax.specs.declared.tree.TypeExpr.{TypeExpr}
 use Rattle.go_syntax.specs.declared.tree.TypeExpr.TheVariants as y
-use Rattle.go_syntax.specs.Reading.{Reply, ◌>>=◌, told_at, start_of, starts, begins_type, is_arrow, is_bar, is_ident, is_comma, is_open_paren, is_close_paren, is_open_bracket, is_close_bracket, is_semicolon, is_close_brace, too_deep, series_end, Fit, fits, with_fit}
-use Rattle.go_syntax.specs.declared.symbols.Span.{Span}
+use Rattle.go_syntax.specs.Reading.{Reply, ◌>>=◌, told_at, start_of, starts, begins_type, is_arrow, is_bar, is_ident, is_open_paren, is_open_bracket, is_close_bracket, is_semicolon, is_close_brace, too_deep, series_end, Fit, fits, with_fit}
 use Rattle.go_syntax.specs.Names.{plain, own, of_package, IsTag, none, some}
 use Rattle.go_syntax.specs.Grammar as g
 use Rattle.go_syntax.specs.Grammar.{named, instance, field, param, IsNamed, IsArgs, IsTypes, IsType, IsField, IsFields, IsParam, IsParams, IsSig, IsTerm, IsTerms, IsUnion, IsElem, IsElems}
@@ -279,7 +278,7 @@ lone_is l i o ws = refl
 lone_more : (l : ℕ) (i : Ident) (ws : List Symbol) → (instance_is l i ws >>= embedded_as i) ≡ (type_at l ws >>= λ w. field_more l i w.0 w.1)
 lone_more l i ws = thrice (type_at l ws) (λ w. series_end (type_list l) (many l) w.0 w.1) (made_of i) (embedded_as i)
 
-tag_shorter : (us : List Symbol) (tag : Option Span) (rest : List Symbol) → IsTag us tag rest → length rest ≤ length us
+tag_shorter : (us : List Symbol) (tag : List ℕ) (rest : List Symbol) → IsTag us tag rest → length rest ≤ length us
 tag_shorter us tag rest (none r) = omega arith
 tag_shorter us tag rest (some s r) = omega arith
 
@@ -287,7 +286,7 @@ tag_shorter us tag rest (some s r) = omega arith
 abbrev field_rest : Fit TypeExpr → Ident → ℕ → Reply (Fit (List TypeExpr)) → Reply (Fit FieldExpr)
 field_rest z i l reply = ((reply >>= grown z) >>= made_of i) >>= embedded_as i
 
-rest_needs : (l j : ℕ) (i : Ident) (z : Fit TypeExpr) (vs us : List Symbol) (xs : List TypeExpr) (tag : Option Span) (rest : List Symbol) (reply : Reply (Fit (List TypeExpr))) → Agrees l j (sized l j xs) us reply → needed reply ≤ length vs → IsTag us tag rest → starts ends_field rest ≡ true
+rest_needs : (l j : ℕ) (i : Ident) (z : Fit TypeExpr) (vs us : List Symbol) (xs : List TypeExpr) (tag : List ℕ) (rest : List Symbol) (reply : Reply (Fit (List TypeExpr))) → Agrees l j (sized l j xs) us reply → needed reply ≤ length vs → IsTag us tag rest → starts ends_field rest ≡ true
     → needed (field_rest z i l reply) ≤ length vs
 rest_needs l j i z vs us xs tag rest (Ok w) a le t e =
     let same : length w.1 ≡ length us = ap length a.1 in
@@ -298,14 +297,14 @@ rest_needs l j i z vs us xs tag rest (Err (Unexpected k)) a le t e = absurd a
 rest_needs l j i z vs us xs tag rest (Err (DotImport k)) a le t e = absurd a
 rest_needs l j i z vs us xs tag rest (Err (Call k at)) a le t e = absurd a
 
-field_closes : (l : ℕ) (i : Ident) (z : Fit TypeExpr) (us : List Symbol) (tag : Option Span) (rest behind : List Symbol) → Behind behind us → IsTag us tag rest → starts ends_field rest ≡ true → Closes (field_more l i z behind) behind
+field_closes : (l : ℕ) (i : Ident) (z : Fit TypeExpr) (us : List Symbol) (tag : List ℕ) (rest behind : List Symbol) → Behind behind us → IsTag us tag rest → starts ends_field rest ≡ true → Closes (field_more l i z behind) behind
 field_closes l i z us tag rest behind (closed c r) w e =
     ends c us (untyped us (free_type us (tag_free us tag rest w e))) (rw (tag_again us tag rest w e) (tag_shorter us tag rest w))
 field_closes l i z us tag rest behind (continues s j vs xs r a) w e =
     let le = rest_needs l j i z vs us xs tag rest (many l vs) (a l) (needed_within TypesAt (many l) vs l j (sized l j xs) us (many l vs) (many_reads l (type_at l) (type_reads l) vs) (a l)) w e in
     goes s vs (omega (arith, le))
 
-field_loses : (n m : ℕ) (i : Ident) (o : ℕ) (ws : List Symbol) (ty : TypeExpr) (us : List Symbol) (tag : Option Span) (rest : List Symbol) → Inside ws us → Agrees n m (sized n m ty) us (type_at n (t.Ident i ∷ t.OpenBracket o ∷ ws)) → IsTag us tag rest → starts ends_field rest ≡ true
+field_loses : (n m : ℕ) (i : Ident) (o : ℕ) (ws : List Symbol) (ty : TypeExpr) (us : List Symbol) (tag : List ℕ) (rest : List Symbol) → Inside ws us → Agrees n m (sized n m ty) us (type_at n (t.Ident i ∷ t.OpenBracket o ∷ ws)) → IsTag us tag rest → starts ends_field rest ≡ true
     → Loses (only_by (type_at n) i (t.OpenBracket o ∷ ws)) (lone_by n (type_at n) i (t.OpenBracket o ∷ ws))
 field_loses zero m i o ws ty us tag rest first h w e = rw (type_none 0 (t.OpenBracket o ∷ ws) refl) tt
 field_loses (suc l) m i o ws ty us tag rest (first_is ts vs height type behind opens follows again as_expr) h w e =

@@ -3,7 +3,8 @@ use Rattle.std.specs.Prelude.{◌≡◌, ℕ, max, true, false, List, [], ◌∷
 use Rattle.go_syntax.specs.declared.symbols.Symbol.{Symbol}
 use Rattle.go_syntax.specs.declared.symbols.Symbol.TheVariants as t
 use Rattle.go_syntax.specs.declared.symbols.Ident.{Ident}
-use Rattle.go_syntax.specs.declared.symbols.Span.{Span}
+use Rattle.go_syntax.specs.Reading.{Quoted}
+use Rattle.string_literals.specs.Values.{value_of}
 use Rattle.go_syntax.specs.declared.constants.Written.{Written}
 use Rattle.go_syntax.specs.declared.tree.Import.{Import}
 use Rattle.go_syntax.specs.declared.tree.Top.{Top}
@@ -20,8 +21,9 @@ use Rattle.go_syntax.specs.Skipped.{IsSkipped}
 use Rattle.go_syntax.specs.Functions.{IsFunc}
 use Rattle.go_syntax.specs.Constants.{IsConstSpec, counted}
 
-abbrev pub import : Option Ident → Span → Import
-import name path = record { name = name; path = path; at = path.start }
+-- with the value of this literal as its path
+abbrev pub import : Option Ident → Quoted → Import
+import name path = record { name = name; path = value_of path.1; at = path.0.start }
 
 abbrev pub vars : List Ident → Option TypeExpr → Top
 vars names ty = top.Var (record { names = names; ty = ty })
@@ -37,8 +39,8 @@ source_file i imports tops = record { name = i; imports = imports; tops = tops }
 
 -- ImportSpec = [ identifier ] string_lit
 pub data IsImport : ℕ → List Symbol → Import → List Symbol → Type 0 where
-  plainly : (s : Span) (rest : List Symbol) → IsImport 0 (t.Text s ∷ rest) (import None s) rest
-  named_so : (i : Ident) (s : Span) (rest : List Symbol) → IsImport 0 (t.Ident i ∷ t.Text s ∷ rest) (import (Some i) s) rest
+  plainly : (s : Quoted) (rest : List Symbol) → IsImport 0 (t.Text s ∷ rest) (import None s) rest
+  named_so : (i : Ident) (s : Quoted) (rest : List Symbol) → IsImport 0 (t.Ident i ∷ t.Text s ∷ rest) (import (Some i) s) rest
 
 -- [ "=" skipped ], in one line of code
 pub data IsValue : List Symbol → List Symbol → Type 0 where

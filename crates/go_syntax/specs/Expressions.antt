@@ -1,8 +1,7 @@
 -- The grammar of constant expressions, a production a case. The second number is that of the nodes on a longest path of the tree.
 use Rattle.std.specs.Prelude.{◌≡◌, ℕ, suc, max, Bool, true, false, List, ◌∷◌, Option, Some, None}
 use Rattle.go_lexer.specs.declared.token_kinds.Token.{Token}
-use Rattle.go_lexer.specs.declared.token_kinds.TokenKind.TheVariants as kind
-use Rattle.go_syntax.specs.declared.symbols.Span.{Span}
+use Rattle.go_syntax.specs.Reading.{Quoted}
 use Rattle.go_syntax.specs.declared.symbols.Operator.{Operator}
 use Rattle.go_syntax.specs.declared.symbols.Operator.TheVariants as o
 use Rattle.go_syntax.specs.declared.symbols.Symbol.{Symbol}
@@ -53,9 +52,6 @@ between_of _ = None
 
 -- ---- trees, each with the place where it begins
 
-abbrev pub text_token : Span → Token
-text_token s = record { kind = kind.Text; start = s.start; end = s.end }
-
 abbrev pub literal : Token → Operand
 literal token = record { expr = e.Literal token token.start; at = token.start }
 
@@ -79,7 +75,7 @@ binary op x y = record { expr = e.Binary op x.expr y.expr x.at; at = x.at }
 -- An expression with the binary operators of the first levels, up to this one. With none of them it is a unary expression, with those of level 5 any.
 pub data IsExpr : ℕ → ℕ → List Symbol → Operand → List Symbol → Type 0 where
   a_literal : (token : Token) (rest : List Symbol) → IsExpr 0 1 (t.Literal token ∷ rest) (literal token) rest
-  a_text : (s : Span) (rest : List Symbol) → IsExpr 0 1 (t.Text s ∷ rest) (literal (text_token s)) rest
+  a_text : (s : Quoted) (rest : List Symbol) → IsExpr 0 1 (t.Text s ∷ rest) (literal s.0) rest
   a_name : (ts : List Symbol) (x : NameExpr) (rest : List Symbol) → IsTypeName ts x rest → IsExpr 0 1 ts (constant x) rest
   a_conversion : (n : ℕ) (ts : List Symbol) (x : NameExpr) (at : ℕ) (us : List Symbol) (y : Operand) (c : ℕ) (rest : List Symbol)
       → IsTypeName ts x (t.OpenParen at ∷ us) → IsExpr 5 n us y (t.CloseParen c ∷ rest) → IsExpr 0 (suc n) ts (conversion x y) rest

@@ -3,7 +3,6 @@ use Rattle.std.specs.Prelude.{ℕ, Bool, true, false, List, [], ◌∷◌, ◌++
 use Rattle.go_syntax.specs.declared.symbols.Symbol.{Symbol}
 use Rattle.go_syntax.specs.declared.symbols.Symbol.TheVariants as t
 use Rattle.go_syntax.specs.declared.symbols.Ident.{Ident}
-use Rattle.go_syntax.specs.declared.symbols.Span.{Span}
 use Rattle.go_syntax.specs.declared.faults.Fault.{Fault}
 use Rattle.go_syntax.specs.declared.faults.Fault.TheVariants.{DotImport}
 use Rattle.go_syntax.specs.declared.constants.Written.{Written}
@@ -12,7 +11,7 @@ use Rattle.go_syntax.specs.declared.tree.TParam.{TParam}
 use Rattle.go_syntax.specs.declared.tree.Top.{Top}
 use Rattle.go_syntax.specs.declared.tree.Top.TheVariants as top
 use Rattle.go_syntax.specs.declared.tree.SourceFile.{SourceFile}
-use Rattle.go_syntax.specs.Reading.{Reply, ◌>>=◌, unexpected, past, choose, is_package, is_semicolon, is_comma, is_assign, is_open_paren, is_close_paren, is_open_bracket, is_import, is_var, is_type, is_const, is_func, row, steps}
+use Rattle.go_syntax.specs.Reading.{Quoted, Reply, ◌>>=◌, unexpected, past, choose, is_package, is_semicolon, is_comma, is_assign, is_open_paren, is_close_paren, is_open_bracket, is_import, is_var, is_type, is_const, is_func, row, steps}
 use Rattle.go_syntax.specs.Names.{ident_at, names_at, names_more}
 use Rattle.go_syntax.specs.Types.{type_at}
 use Rattle.go_syntax.specs.Generics.{opens_params, tparams_at}
@@ -21,7 +20,7 @@ use Rattle.go_syntax.specs.Functions.{func_at}
 use Rattle.go_syntax.specs.Constants.{counted, const_spec_at}
 use Rattle.go_syntax.specs.Decls.{import, vars, defined, alias, source_file}
 
-abbrev pub text_at : List Symbol → Reply Span
+abbrev pub text_at : List Symbol → Reply Quoted
 text_at (t.Text s ∷ ts) = Ok (s, ts)
 text_at ts = unexpected ts
 

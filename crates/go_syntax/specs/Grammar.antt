@@ -1,9 +1,8 @@
 -- The grammar of types and of what stands inside them, a production a case. The number of a type is that of the nodes on a longest path of its tree.
-use Rattle.std.specs.Prelude.{◌≡◌, ℕ, suc, max, true, false, Bool, List, [], ◌∷◌, Option}
+use Rattle.std.specs.Prelude.{◌≡◌, ℕ, suc, max, true, false, Bool, List, [], ◌∷◌}
 use Rattle.go_syntax.specs.declared.symbols.Symbol.{Symbol}
 use Rattle.go_syntax.specs.declared.symbols.Symbol.TheVariants as t
 use Rattle.go_syntax.specs.declared.symbols.Ident.{Ident}
-use Rattle.go_syntax.specs.declared.symbols.Span.{Span}
 use Rattle.go_syntax.specs.declared.tree.NameExpr.{NameExpr}
 use Rattle.go_syntax.specs.declared.expressions.Operand.{Operand}
 use Rattle.go_syntax.specs.declared.tree.FieldExpr.{FieldExpr}
@@ -25,7 +24,7 @@ instance x args = y.Name x args x.at
 abbrev pub named : NameExpr → TypeExpr
 named x = instance x []
 
-abbrev pub field : List Ident → TypeExpr → Option Span → ℕ → FieldExpr
+abbrev pub field : List Ident → TypeExpr → List ℕ → ℕ → FieldExpr
 field names ty tag at = record { names = names; ty = ty; tag = tag; at = at }
 
 abbrev pub param : List Ident → Bool → TypeExpr → ℕ → ParamExpr
@@ -82,11 +81,11 @@ mutual
         → IsType m ts ty (t.Comma s ∷ us) → IsTypes n us types rest → IsTypes (max m n) ts (ty ∷ types) rest
 
   pub data IsField : ℕ → List Symbol → FieldExpr → List Symbol → Type 0 where
-    shared : (n : ℕ) (i : Ident) (names : List Ident) (ts us : List Symbol) (ty : TypeExpr) (vs : List Symbol) (tag : Option Span) (rest : List Symbol)
+    shared : (n : ℕ) (i : Ident) (names : List Ident) (ts us : List Symbol) (ty : TypeExpr) (vs : List Symbol) (tag : List ℕ) (rest : List Symbol)
         → IsNames ts (i ∷ names) us → IsType n us ty vs → IsTag vs tag rest → IsField n ts (field (i ∷ names) ty tag i.start) rest
-    embedded : (n : ℕ) (ts : List Symbol) (ty : TypeExpr) (us : List Symbol) (tag : Option Span) (rest : List Symbol) → IsNamed n ts ty us → IsTag us tag rest
+    embedded : (n : ℕ) (ts : List Symbol) (ty : TypeExpr) (us : List Symbol) (tag : List ℕ) (rest : List Symbol) → IsNamed n ts ty us → IsTag us tag rest
         → IsField n ts (field [] ty tag (start_of ts)) rest
-    embedded_pointer : (n at : ℕ) (ts : List Symbol) (ty : TypeExpr) (us : List Symbol) (tag : Option Span) (rest : List Symbol) → IsNamed n ts ty us → IsTag us tag rest
+    embedded_pointer : (n at : ℕ) (ts : List Symbol) (ty : TypeExpr) (us : List Symbol) (tag : List ℕ) (rest : List Symbol) → IsNamed n ts ty us → IsTag us tag rest
         → IsField (suc n) (t.Star at ∷ ts) (field [] (y.Pointer ty at) tag at) rest
 
   -- up to the brace that closes; the last semicolon may be left out

@@ -1,11 +1,11 @@
 -- Names and tags, as they are written and as they are read.
-use Rattle.std.specs.Prelude.{ℕ, List, [], ◌∷◌, Option, Some, None, Ok, Err}
+use Rattle.std.specs.Prelude.{ℕ, List, [], ◌∷◌, Some, None, Ok, Err}
 use Rattle.go_syntax.specs.declared.symbols.Symbol.{Symbol}
 use Rattle.go_syntax.specs.declared.symbols.Symbol.TheVariants as t
 use Rattle.go_syntax.specs.declared.symbols.Ident.{Ident}
-use Rattle.go_syntax.specs.declared.symbols.Span.{Span}
+use Rattle.string_literals.specs.Values.{value_of}
 use Rattle.go_syntax.specs.declared.tree.NameExpr.{NameExpr}
-use Rattle.go_syntax.specs.Reading.{Reply, ◌>>=◌, unexpected, past, choose, is_dot, is_comma}
+use Rattle.go_syntax.specs.Reading.{Quoted, Reply, ◌>>=◌, unexpected, past, choose, is_dot, is_comma}
 
 abbrev pub plain : Ident → NameExpr
 plain i = record { «package» = None; name = i; at = i.start }
@@ -23,10 +23,10 @@ pub data IsNames : List Symbol → List Ident → List Symbol → Type 0 where
   one : (i : Ident) (rest : List Symbol) → IsNames (t.Ident i ∷ rest) (i ∷ []) rest
   more : (i : Ident) (c : ℕ) (ts : List Symbol) (names : List Ident) (rest : List Symbol) → IsNames ts names rest → IsNames (t.Ident i ∷ t.Comma c ∷ ts) (i ∷ names) rest
 
--- Tag = [ string_lit ]
-pub data IsTag : List Symbol → Option Span → List Symbol → Type 0 where
-  none : (rest : List Symbol) → IsTag rest None rest
-  some : (s : Span) (rest : List Symbol) → IsTag (t.Text s ∷ rest) (Some s) rest
+-- Tag = [ string_lit ], with the value of the literal, or the empty one
+pub data IsTag : List Symbol → List ℕ → List Symbol → Type 0 where
+  none : (rest : List Symbol) → IsTag rest [] rest
+  some : (s : Quoted) (rest : List Symbol) → IsTag (t.Text s ∷ rest) (value_of s.1) rest
 
 -- ---- reading
 
@@ -39,9 +39,9 @@ abbrev pub ident_or : {X : Type 0} → Reply Ident → (Ident → List Symbol �
 ident_or (Ok i) q other = q i.0 i.1
 ident_or (Err f) q other = other
 
-abbrev pub tag_at : List Symbol → Reply (Option Span)
-tag_at (t.Text s ∷ ts) = Ok (Some s, ts)
-tag_at ts = Ok (None, ts)
+abbrev pub tag_at : List Symbol → Reply (List ℕ)
+tag_at (t.Text s ∷ ts) = Ok (value_of s.1, ts)
+tag_at ts = Ok ([], ts)
 
 -- after the first identifier
 abbrev pub selected_by : Ident → List Symbol → Reply NameExpr

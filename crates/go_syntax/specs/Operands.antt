@@ -10,7 +10,7 @@ use Rattle.go_syntax.specs.declared.tree.NameExpr.{NameExpr}
 use Rattle.go_syntax.specs.declared.expressions.Operand.{Operand}
 use Rattle.go_syntax.specs.Reading.{Reply, from_start, ◌>>=◌, unexpected, too_deep, past, peek, is_close_paren}
 use Rattle.go_syntax.specs.Names.{dotted}
-use Rattle.go_syntax.specs.Expressions.{level, is_unary, between_of, text_token, literal, constant, conversion, enclosed, unary, binary}
+use Rattle.go_syntax.specs.Expressions.{level, is_unary, between_of, literal, constant, conversion, enclosed, unary, binary}
 
 abbrev pub Sized : Type 0
 Sized = Operand × ℕ
@@ -70,7 +70,7 @@ signed_by false first op at ts = unexpected (t.Operator op at ∷ ts)
 -- first reads unary expressions, and inner all of them
 abbrev pub operand_by : ℕ → Reader → Reader → List Symbol → Reply Sized
 operand_by n first inner (t.Literal token ∷ ts) = uncalled (literal token, n) ts
-operand_by n first inner (t.Text s ∷ ts) = uncalled (literal (text_token s), n) ts
+operand_by n first inner (t.Text s ∷ ts) = uncalled (literal s.0, n) ts
 operand_by n first inner (t.Ident i ∷ ts) = ident_by n inner i ts
 operand_by n first inner (t.OpenParen at ∷ ts) = enclosed_by inner at ts
 operand_by n first inner (t.Operator op at ∷ ts) = signed_by (is_unary op) first op at ts

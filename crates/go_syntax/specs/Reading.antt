@@ -2,10 +2,15 @@
 use Rattle.std.specs.Prelude.{◌≡◌, ℕ, zero, suc, min, Bool, true, false, List, [], ◌∷◌, ◌++◌, length, if◌then◌else◌, Result, Ok, Err}
 use Rattle.go_syntax.specs.declared.symbols.Symbol.{Symbol}
 use Rattle.go_syntax.specs.declared.symbols.Symbol.TheVariants as t
+use Rattle.go_lexer.specs.declared.token_kinds.Token.{Token}
 use Rattle.go_syntax.specs.declared.faults.Fault.{Fault}
 use Rattle.go_syntax.specs.declared.faults.Fault.TheVariants.{Unexpected, Deep, DotImport, Call}
 use Rattle.go_syntax.specs.declared.faults.Stop.{Stop}
 use Rattle.go_syntax.specs.declared.faults.Stop.TheVariants as stop
+
+-- a string literal: its token, and its text with the quotes
+abbrev pub Quoted : Type 0
+Quoted = Token × List ℕ
 
 abbrev pub Reply : Type 0 → Type 0
 Reply X = Result (X × List Symbol) Fault
@@ -22,7 +27,7 @@ unexpected ts = Err (Unexpected (length ts))
 -- the first byte of a token
 abbrev pub symbol_start : Symbol → ℕ
 symbol_start (t.Ident i) = i.start
-symbol_start (t.Text s) = s.start
+symbol_start (t.Text s) = s.0.start
 symbol_start (t.Semicolon at) = at
 symbol_start (t.Comma at) = at
 symbol_start (t.Dot at) = at

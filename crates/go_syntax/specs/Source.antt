@@ -1,5 +1,5 @@
 -- What the grammar sees of a source's tokens.
-use Rattle.std.specs.Prelude.{ℕ, ◌+◌, ◌-◌, ◌==◌, ◌&&◌, List, length, map, if◌then◌else◌, Option, Some, None, slice_get}
+use Rattle.std.specs.Prelude.{ℕ, ◌+◌, ◌-◌, ◌==◌, ◌&&◌, nat_le, List, [], take, drop, length, map, if◌then◌else◌, Option, Some, None, slice_get}
 use Rattle.code_tables.specs.declared.words.Keyword.{Keyword}
 use Rattle.code_tables.specs.declared.words.Keyword.TheVariants as w
 use Rattle.go_lexer.specs.declared.token_kinds.Token.{Token}
@@ -86,10 +86,14 @@ abbrev pub mark_symbol : ℕ → Option ℕ → Option ℕ → ℕ → Symbol
 mark_symbol len None second at = t.Other at
 mark_symbol len (Some a) second at = if len == 1 then single_symbol a at else (if len == 2 then pair_symbol a second at else triple_symbol a at)
 
+-- the bytes between two places, or none where these are no places
+abbrev pub text_of : List ℕ → ℕ → ℕ → List ℕ
+text_of src start end = if nat_le start end && nat_le end (length src) then take (end - start) (drop start src) else []
+
 abbrev pub symbol_by : List ℕ → Token → TokenKind → ℕ → ℕ → Symbol
 symbol_by src token kind.Ident start end = t.Ident (record { start = start; end = end })
 symbol_by src token (kind.Word keyword) start end = keyword_symbol keyword start
-symbol_by src token kind.Text start end = t.Text (record { start = start; end = end })
+symbol_by src token kind.Text start end = t.Text (token, text_of src start end)
 symbol_by src token kind.Inserted start end = t.Semicolon start
 symbol_by src token kind.Mark start end = mark_symbol (end - start) (slice_get src start) (slice_get src (start + 1)) start
 symbol_by src token _ start end = t.Literal token

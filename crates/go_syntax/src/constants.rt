@@ -6,8 +6,8 @@ ghost use Rattle.go_syntax.specs.Files.{counting, const_group_at};
 use crate::expressions::outer_expression;
 use crate::faults::Stop;
 use crate::names::more_names;
-use crate::reading::{Kind, ident, past, starts};
-use crate::symbols::{Ident, Symbol};
+use crate::reading::{Kind, ident, onward, past, starts};
+use crate::symbols::{Ident, Tokens};
 use crate::tree::{ConstSpec, Expr, Top, TypeExpr};
 use crate::types::type_expr;
 use sqlite_items::Items;
@@ -24,9 +24,9 @@ pub(crate) struct Written {
 /// Expressions with a comma between each two.
 fn expression_list(
     alloc: Global,
-    tokens: &[Symbol],
+    tokens: Tokens<'_>,
     left: usize,
-) -> Result<(Items<Expr>, &[Symbol]), Stop>
+) -> Result<(Items<Expr>, Tokens<'_>), Stop>
     ensures { Gives (λ x. (x.0, x.1.now)) result (exprs_at left tokens.now) }
 {
     let mut found = Items::new(alloc);
@@ -37,7 +37,7 @@ fn expression_list(
         let Ok(next) = past(Kind::Comma, after) else {
             return Ok((found, after));
         };
-        rest = next;
+        rest = onward(next);
     }
 }
 
@@ -46,9 +46,9 @@ fn values(
     alloc: Global,
     names: Items<Ident>,
     ty: Option<TypeExpr>,
-    tokens: &[Symbol],
+    tokens: Tokens<'_>,
     left: usize,
-) -> Result<(Written, &[Symbol]), Stop>
+) -> Result<(Written, Tokens<'_>), Stop>
     ensures { Gives (λ x. (x.0, x.1.now)) result (const_values left names ty tokens.now) }
 {
     let (values, rest) = expression_list(alloc, tokens, left)?;
@@ -59,9 +59,9 @@ fn values(
 fn typed(
     alloc: Global,
     names: Items<Ident>,
-    tokens: &[Symbol],
+    tokens: Tokens<'_>,
     left: usize,
-) -> Result<(Written, &[Symbol]), Stop>
+) -> Result<(Written, Tokens<'_>), Stop>
     ensures { Gives (λ x. (x.0, x.1.now)) result (const_typed left names tokens.now) }
 {
     let ((ty, _), rest) = type_expr(alloc, tokens, left)?;
@@ -73,9 +73,9 @@ fn typed(
 fn after_names(
     alloc: Global,
     names: Items<Ident>,
-    tokens: &[Symbol],
+    tokens: Tokens<'_>,
     left: usize,
-) -> Result<(Written, &[Symbol]), Stop>
+) -> Result<(Written, Tokens<'_>), Stop>
     ensures { Gives (λ x. (x.0, x.1.now)) result (const_rest left names tokens.now) }
 {
     if let Ok(rest) = past(Kind::Assign, tokens) {
@@ -96,9 +96,9 @@ fn after_names(
 fn first_const(
     alloc: Global,
     first: Ident,
-    tokens: &[Symbol],
+    tokens: Tokens<'_>,
     left: usize,
-) -> Result<(Written, &[Symbol]), Stop>
+) -> Result<(Written, Tokens<'_>), Stop>
     ensures { Gives (λ x. (x.0, x.1.now)) result (const_first left first tokens.now) }
 {
     if let Ok(rest) = past(Kind::Comma, tokens) {
@@ -111,7 +111,7 @@ fn first_const(
 }
 
 /// A specification of constants.
-fn const_spec(alloc: Global, tokens: &[Symbol], left: usize) -> Result<(Written, &[Symbol]), Stop>
+fn const_spec(alloc: Global, tokens: Tokens<'_>, left: usize) -> Result<(Written, Tokens<'_>), Stop>
     ensures { Gives (λ x. (x.0, x.1.now)) result (const_spec_at left tokens.now) }
 {
     let (first, rest) = ident(tokens)?;
@@ -147,9 +147,9 @@ fn constants(written: Written, iota: usize, source: usize) -> Top
 /// The constants of a group, after its parenthesis.
 fn const_block(
     alloc: Global,
-    tokens: &[Symbol],
+    tokens: Tokens<'_>,
     left: usize,
-) -> Result<(Items<Top>, &[Symbol]), Stop>
+) -> Result<(Items<Top>, Tokens<'_>), Stop>
     ensures { Gives (λ x. (x.0, x.1.now)) result (counting 0 0 (row is_close_paren (const_spec_at left) tokens.now)) }
 {
     let mut found = Items::new(alloc);
@@ -166,16 +166,17 @@ fn const_block(
         if let Ok(after) = past(Kind::CloseParen, behind) {
             return Ok((found, after));
         }
-        rest = past(Kind::Semicolon, behind)?;
+        let next = past(Kind::Semicolon, behind)?;
+        rest = onward(next);
     }
 }
 
 /// One specification of constants, or a group of them.
 pub(crate) fn const_group(
     alloc: Global,
-    tokens: &[Symbol],
+    tokens: Tokens<'_>,
     left: usize,
-) -> Result<(Items<Top>, &[Symbol]), Stop>
+) -> Result<(Items<Top>, Tokens<'_>), Stop>
     ensures { Gives (λ x. (x.0, x.1.now)) result (const_group_at left tokens.now) }
 {
     if let Ok(rest) = past(Kind::OpenParen, tokens) {

@@ -1,6 +1,7 @@
-ghost use Rattle.std.specs.Prelude.{◌≤◌};
+ghost use Rattle.std.specs.Prelude.{◌≡◌, ◌≤◌, IfOk};
 ghost use Rattle.go_syntax.specs.Reading.{Exactly, Gives, row, is_close_paren};
 ghost use Rattle.go_syntax.specs.Files.{text_at, named_import, import_at, value_at, vars_typed, vars_rest, vars_first, declared_by, type_first, group_at, const_group_at, func_group_at, some_decl, import_decl, top_decl};
+ghost use Rattle.go_syntax.specs.Decls.{import};
 ghost use Rattle.go_syntax.specs.Specs.{spec_of};
 
 use crate::constants::const_group;
@@ -8,13 +9,14 @@ use crate::faults::{Fault, Stop};
 use crate::functions::func_decl;
 use crate::generics::{opens_params, type_params};
 use crate::names::more_names;
-use crate::reading::{Kind, ident, past, single};
+use crate::reading::{Kind, ident, onward, past, single};
 use crate::skipped::skipped;
-use crate::symbols::{Ident, Span, Symbol};
+use crate::symbols::{Ident, Quoted, Symbol, Tokens};
 use crate::tree::{Import, TParam, Top, TypeSpec, VarSpec};
 use crate::types::type_expr;
 use sqlite_items::Items;
-use std::alloc::Global;
+use std::alloc::{AllocError, Global};
+use string_literals::unquoted;
 
 /// What a declaration declares.
 #[derive(Clone, Copy)]
@@ -24,11 +26,11 @@ pub(crate) enum Keyword {
 }
 
 /// A string literal.
-fn text(tokens: &[Symbol]) -> Result<(Span, &[Symbol]), Fault>
-    ensures { Exactly (λ x. (x.0, x.1.now)) result (text_at tokens.now) }
+fn text(tokens: Tokens<'_>) -> Result<(&Quoted<'_>, Tokens<'_>), Fault>
+    ensures { Exactly (λ x. (x.0.now, x.1.now)) result (text_at tokens.now) }
 {
     match tokens {
-        [first, rest @ ..] => match *first {
+        [first, rest @ ..] => match first {
             Symbol::Text(text) => Ok((text, rest)),
             _ => Err(Fault::Unexpected(tokens.len())),
         },
@@ -36,43 +38,44 @@ fn text(tokens: &[Symbol]) -> Result<(Span, &[Symbol]), Fault>
     }
 }
 
+/// An import with the path of this literal.
+fn import(alloc: Global, name: Option<Ident>, path: &Quoted) -> Result<Import, AllocError>
+    ensures { IfOk result (λ x. x ≡ import name path.now) }
+{
+    let at = path.token().start;
+    let path = unquoted(alloc, path.text())?;
+    Ok(Import { name, path, at })
+}
+
 /// An import, after its name.
-fn named_import(name: Ident, tokens: &[Symbol]) -> Result<(Import, &[Symbol]), Fault>
-    ensures { Exactly (λ x. (x.0, x.1.now)) result (named_import name tokens.now) }
+fn named_import(
+    alloc: Global,
+    name: Ident,
+    tokens: Tokens<'_>,
+) -> Result<(Import, Tokens<'_>), Stop>
+    ensures { Gives (λ x. (x.0, x.1.now)) result (named_import name tokens.now) }
 {
     let (path, rest) = text(tokens)?;
-    let import = Import {
-        name: Some(name),
-        path,
-        at: path.start,
-    };
-    Ok((import, rest))
+    Ok((import(alloc, Some(name), path)?, rest))
 }
 
 /// An import, after the keyword or in a group.
-fn import_spec(tokens: &[Symbol]) -> Result<(Import, &[Symbol]), Fault>
-    ensures { Exactly (λ x. (x.0, x.1.now)) result (import_at tokens.now) }
+fn import_spec(alloc: Global, tokens: Tokens<'_>) -> Result<(Import, Tokens<'_>), Stop>
+    ensures { Gives (λ x. (x.0, x.1.now)) result (import_at tokens.now) }
 {
-    match tokens {
-        [first, rest @ ..] => match *first {
-            Symbol::Text(path) => {
-                let import = Import {
-                    name: None,
-                    path,
-                    at: path.start,
-                };
-                Ok((import, rest))
-            }
-            Symbol::Ident(name) => named_import(name, rest),
-            Symbol::Dot(_) => Err(Fault::DotImport(tokens.len())),
-            _ => Err(Fault::Unexpected(tokens.len())),
-        },
-        [] => Err(Fault::Unexpected(0)),
+    let [first, rest @ ..] = tokens else {
+        return Err(Stop::At(Fault::Unexpected(0)));
+    };
+    match first {
+        Symbol::Text(path) => Ok((import(alloc, None, path)?, rest)),
+        Symbol::Ident(name) => named_import(alloc, *name, rest),
+        Symbol::Dot(_) => Err(Stop::At(Fault::DotImport(tokens.len()))),
+        _ => Err(Stop::At(Fault::Unexpected(tokens.len()))),
     }
 }
 
 /// Variables with their value, if one comes next.
-fn with_value(alloc: Global, vars: Top, tokens: &[Symbol]) -> Result<(Top, &[Symbol]), Stop>
+fn with_value(alloc: Global, vars: Top, tokens: Tokens<'_>) -> Result<(Top, Tokens<'_>), Stop>
     ensures { Gives (λ x. (x.0, x.1.now)) result (value_at vars tokens.now) }
 {
     if let Ok(rest) = past(Kind::Assign, tokens) {
@@ -86,9 +89,9 @@ fn with_value(alloc: Global, vars: Top, tokens: &[Symbol]) -> Result<(Top, &[Sym
 fn typed_vars(
     alloc: Global,
     names: Items<Ident>,
-    tokens: &[Symbol],
+    tokens: Tokens<'_>,
     left: usize,
-) -> Result<(Top, &[Symbol]), Stop>
+) -> Result<(Top, Tokens<'_>), Stop>
     ensures { Gives (λ x. (x.0, x.1.now)) result (vars_typed left names tokens.now) }
 {
     let ((ty, _), rest) = type_expr(alloc, tokens, left)?;
@@ -100,9 +103,9 @@ fn typed_vars(
 fn after_var_names(
     alloc: Global,
     names: Items<Ident>,
-    tokens: &[Symbol],
+    tokens: Tokens<'_>,
     left: usize,
-) -> Result<(Top, &[Symbol]), Stop>
+) -> Result<(Top, Tokens<'_>), Stop>
     ensures { Gives (λ x. (x.0, x.1.now)) result (vars_rest left names tokens.now) }
 {
     if let Ok(rest) = past(Kind::Assign, tokens) {
@@ -116,9 +119,9 @@ fn after_var_names(
 fn first_var(
     alloc: Global,
     first: Ident,
-    tokens: &[Symbol],
+    tokens: Tokens<'_>,
     left: usize,
-) -> Result<(Top, &[Symbol]), Stop>
+) -> Result<(Top, Tokens<'_>), Stop>
     ensures { Gives (λ x. (x.0, x.1.now)) result (vars_first left first tokens.now) }
 {
     if let Ok(rest) = past(Kind::Comma, tokens) {
@@ -134,9 +137,9 @@ fn declared(
     alloc: Global,
     name: Ident,
     tparams: Items<TParam>,
-    tokens: &[Symbol],
+    tokens: Tokens<'_>,
     left: usize,
-) -> Result<(Top, &[Symbol]), Stop>
+) -> Result<(Top, Tokens<'_>), Stop>
     ensures { Gives (λ x. (x.0, x.1.now)) result (declared_by left name tparams tokens.now) }
 {
     if let Ok(rest) = past(Kind::Assign, tokens) {
@@ -151,9 +154,9 @@ fn declared(
 fn first_type(
     alloc: Global,
     name: Ident,
-    tokens: &[Symbol],
+    tokens: Tokens<'_>,
     left: usize,
-) -> Result<(Top, &[Symbol]), Stop>
+) -> Result<(Top, Tokens<'_>), Stop>
     ensures { Gives (λ x. (x.0, x.1.now)) result (type_first left name tokens.now) }
 {
     if opens_params(tokens) {
@@ -168,9 +171,9 @@ fn first_type(
 fn one_spec(
     alloc: Global,
     keyword: Keyword,
-    tokens: &[Symbol],
+    tokens: Tokens<'_>,
     left: usize,
-) -> Result<(Top, &[Symbol]), Stop>
+) -> Result<(Top, Tokens<'_>), Stop>
     ensures { Gives (λ x. (x.0, x.1.now)) result (spec_of keyword left tokens.now) }
 {
     let (first, rest) = ident(tokens)?;
@@ -181,7 +184,7 @@ fn one_spec(
 }
 
 /// The imports of a group, after its parenthesis.
-fn import_block(alloc: Global, tokens: &[Symbol]) -> Result<(Items<Import>, &[Symbol]), Stop>
+fn import_block(alloc: Global, tokens: Tokens<'_>) -> Result<(Items<Import>, Tokens<'_>), Stop>
     ensures { Gives (λ x. (x.0, x.1.now)) result (row is_close_paren import_at tokens.now) }
 {
     let mut found = Items::new(alloc);
@@ -190,12 +193,13 @@ fn import_block(alloc: Global, tokens: &[Symbol]) -> Result<(Items<Import>, &[Sy
         if let Ok(after) = past(Kind::CloseParen, rest) {
             return Ok((found, after));
         }
-        let (import, behind) = import_spec(rest)?;
+        let (import, behind) = import_spec(alloc, rest)?;
         found.push(import)?;
         if let Ok(after) = past(Kind::CloseParen, behind) {
             return Ok((found, after));
         }
-        rest = past(Kind::Semicolon, behind)?;
+        let next = past(Kind::Semicolon, behind)?;
+        rest = onward(next);
     }
 }
 
@@ -203,9 +207,9 @@ fn import_block(alloc: Global, tokens: &[Symbol]) -> Result<(Items<Import>, &[Sy
 fn spec_block(
     alloc: Global,
     keyword: Keyword,
-    tokens: &[Symbol],
+    tokens: Tokens<'_>,
     left: usize,
-) -> Result<(Items<Top>, &[Symbol]), Stop>
+) -> Result<(Items<Top>, Tokens<'_>), Stop>
     requires { 2 ≤ left }
     ensures { Gives (λ x. (x.0, x.1.now)) result (row is_close_paren (spec_of keyword left) tokens.now) }
 {
@@ -220,18 +224,19 @@ fn spec_block(
         if let Ok(after) = past(Kind::CloseParen, behind) {
             return Ok((found, after));
         }
-        rest = past(Kind::Semicolon, behind)?;
+        let next = past(Kind::Semicolon, behind)?;
+        rest = onward(next);
     }
 }
 
 /// One import, or a group of them.
-fn import_group(alloc: Global, tokens: &[Symbol]) -> Result<(Items<Import>, &[Symbol]), Stop>
+fn import_group(alloc: Global, tokens: Tokens<'_>) -> Result<(Items<Import>, Tokens<'_>), Stop>
     ensures { Gives (λ x. (x.0, x.1.now)) result (group_at import_at tokens.now) }
 {
     if let Ok(rest) = past(Kind::OpenParen, tokens) {
         return import_block(alloc, rest);
     }
-    let (import, rest) = import_spec(tokens)?;
+    let (import, rest) = import_spec(alloc, tokens)?;
     let mut imports = Items::new(alloc);
     imports.push(import)?;
     Ok((imports, rest))
@@ -241,9 +246,9 @@ fn import_group(alloc: Global, tokens: &[Symbol]) -> Result<(Items<Import>, &[Sy
 fn spec_group(
     alloc: Global,
     keyword: Keyword,
-    tokens: &[Symbol],
+    tokens: Tokens<'_>,
     left: usize,
-) -> Result<(Items<Top>, &[Symbol]), Stop>
+) -> Result<(Items<Top>, Tokens<'_>), Stop>
     requires { 2 ≤ left }
     ensures { Gives (λ x. (x.0, x.1.now)) result (group_at (spec_of keyword left) tokens.now) }
 {
@@ -259,8 +264,8 @@ fn spec_group(
 /// An import declaration with its semicolon, if one comes next.
 pub(crate) fn import_decl(
     alloc: Global,
-    tokens: &[Symbol],
-) -> Result<(Option<Items<Import>>, &[Symbol]), Stop>
+    tokens: Tokens<'_>,
+) -> Result<(Option<Items<Import>>, Tokens<'_>), Stop>
     ensures { Gives (λ x. (x.0, x.1.now)) result (import_decl tokens.now) }
 {
     if let Ok(rest) = past(Kind::Import, tokens) {
@@ -275,9 +280,9 @@ pub(crate) fn import_decl(
 fn spec_decl(
     alloc: Global,
     keyword: Keyword,
-    tokens: &[Symbol],
+    tokens: Tokens<'_>,
     left: usize,
-) -> Result<(Option<Items<Top>>, &[Symbol]), Stop>
+) -> Result<(Option<Items<Top>>, Tokens<'_>), Stop>
     requires { 2 ≤ left }
     ensures { Gives (λ x. (x.0, x.1.now)) result (some_decl (group_at (spec_of keyword left)) tokens.now) }
 {
@@ -289,9 +294,9 @@ fn spec_decl(
 /// The constants after their keyword, with the semicolon.
 fn const_decl(
     alloc: Global,
-    tokens: &[Symbol],
+    tokens: Tokens<'_>,
     left: usize,
-) -> Result<(Option<Items<Top>>, &[Symbol]), Stop>
+) -> Result<(Option<Items<Top>>, Tokens<'_>), Stop>
     ensures { Gives (λ x. (x.0, x.1.now)) result (some_decl (const_group_at left) tokens.now) }
 {
     let (constants, rest) = const_group(alloc, tokens, left)?;
@@ -302,9 +307,9 @@ fn const_decl(
 /// The function or method after its keyword, with the semicolon.
 fn func_top(
     alloc: Global,
-    tokens: &[Symbol],
+    tokens: Tokens<'_>,
     left: usize,
-) -> Result<(Option<Items<Top>>, &[Symbol]), Stop>
+) -> Result<(Option<Items<Top>>, Tokens<'_>), Stop>
     ensures { Gives (λ x. (x.0, x.1.now)) result (some_decl (func_group_at left) tokens.now) }
 {
     let (func, rest) = func_decl(alloc, tokens, left)?;
@@ -315,9 +320,9 @@ fn func_top(
 /// A declaration with its semicolon, if one comes next.
 pub(crate) fn top_decl(
     alloc: Global,
-    tokens: &[Symbol],
+    tokens: Tokens<'_>,
     left: usize,
-) -> Result<(Option<Items<Top>>, &[Symbol]), Stop>
+) -> Result<(Option<Items<Top>>, Tokens<'_>), Stop>
     requires { 2 ≤ left }
     ensures { Gives (λ x. (x.0, x.1.now)) result (top_decl left tokens.now) }
 {

@@ -4,7 +4,7 @@ ghost use Rattle.go_syntax.specs.Either.{later, instead_of, after_fault};
 ghost use Rattle.go_syntax.specs.declared.faults.Fault.TheVariants.{Deep};
 
 use crate::faults::{Fault, Stop};
-use crate::symbols::Symbol;
+use crate::symbols::Tokens;
 
 /// The fault that counts, where the first reading has one with this many tokens left, and the second has another.
 fn later(first: Fault, left: usize, second: Fault) -> Fault
@@ -21,14 +21,14 @@ fn later(first: Fault, left: usize, second: Fault) -> Fault
 fn instead<T: Drop>(
     first: Fault,
     left: usize,
-    second: Result<(T, &[Symbol]), Stop>,
-) -> Result<(T, &[Symbol]), Stop>
+    second: Result<(T, Tokens<'_>), Stop>,
+) -> Result<(T, Tokens<'_>), Stop>
     ensures { (read : Reply T) → Gives (λ x. (x.0, x.1.now)) second.entry read → Gives (λ x. (x.0, x.1.now)) result (instead_of first left read) }
 {
     match second {
-        Ok((tree, rest)) => {
-            if rest.len() <= left {
-                Ok((tree, rest))
+        Ok(read) => {
+            if read.1.len() <= left {
+                Ok(read)
             } else {
                 Err(Stop::At(first))
             }
@@ -43,8 +43,8 @@ fn instead<T: Drop>(
 fn deep_in_both<T: Drop>(
     left: usize,
     began: u32,
-    second: Result<(T, &[Symbol]), Stop>,
-) -> Result<(T, &[Symbol]), Stop>
+    second: Result<(T, Tokens<'_>), Stop>,
+) -> Result<(T, Tokens<'_>), Stop>
     ensures { (read : Reply T) → Gives (λ x. (x.0, x.1.now)) second.entry read → Gives (λ x. (x.0, x.1.now)) result (after_fault (Deep left began) read) }
 {
     match second {
@@ -59,8 +59,8 @@ fn deep_in_both<T: Drop>(
 /// What counts, where the first of two readings has this fault, and the second answers so.
 pub(crate) fn after_fault<T: Drop>(
     first: Fault,
-    second: Result<(T, &[Symbol]), Stop>,
-) -> Result<(T, &[Symbol]), Stop>
+    second: Result<(T, Tokens<'_>), Stop>,
+) -> Result<(T, Tokens<'_>), Stop>
     ensures { (read : Reply T) → Gives (λ x. (x.0, x.1.now)) second.entry read → Gives (λ x. (x.0, x.1.now)) result (after_fault first read) }
 {
     match first {

@@ -6,8 +6,8 @@ ghost use Rattle.go_syntax.specs.Types.{type_at, lower_at};
 use crate::faults::{Fault, Stop};
 use crate::instances::named_type;
 use crate::params::signature;
-use crate::reading::{Kind, ident, past, single, start, starts, too_deep};
-use crate::symbols::{Ident, Symbol};
+use crate::reading::{Kind, ident, onward, past, single, start, starts, too_deep};
+use crate::symbols::{Ident, Tokens};
 use crate::tree::{ElemExpr, TermExpr, TypeExpr};
 use crate::types::{lower_type, type_expr};
 use sqlite_items::Items;
@@ -17,9 +17,9 @@ use std::alloc::Global;
 #[cycle(types)]
 fn one_term(
     alloc: Global,
-    tokens: &[Symbol],
+    tokens: Tokens<'_>,
     left: usize,
-) -> Result<((TermExpr, usize), &[Symbol]), Stop>
+) -> Result<((TermExpr, usize), Tokens<'_>), Stop>
     ensures { Gives (λ x. (x.0, x.1.now)) result (term_at (lower_at left) tokens.now) }
 {
     let at = start(tokens);
@@ -39,9 +39,9 @@ fn more_terms(
     alloc: Global,
     first: (TermExpr, usize),
     at: u32,
-    tokens: &[Symbol],
+    tokens: Tokens<'_>,
     left: usize,
-) -> Result<((TypeExpr, usize), &[Symbol]), Stop>
+) -> Result<((TypeExpr, usize), Tokens<'_>), Stop>
     ensures { Gives (λ x. (x.0, x.1.now)) result (more_terms (lower_at left) first at tokens.now) }
 {
     let (first, mut fit) = first;
@@ -54,7 +54,7 @@ fn more_terms(
         let Ok(next) = past(Kind::Bar, after) else {
             return Ok(((TypeExpr::Union { terms, at }, fit), after));
         };
-        rest = next;
+        rest = onward(next);
     }
 }
 
@@ -64,9 +64,9 @@ fn after_type(
     alloc: Global,
     first: (TypeExpr, usize),
     at: u32,
-    tokens: &[Symbol],
+    tokens: Tokens<'_>,
     left: usize,
-) -> Result<((TypeExpr, usize), &[Symbol]), Stop>
+) -> Result<((TypeExpr, usize), Tokens<'_>), Stop>
     ensures { Gives (λ x. (x.0, x.1.now)) result (after_type (lower_at left) first.0 first.1 at tokens.now) }
 {
     let Ok(rest) = past(Kind::Bar, tokens) else {
@@ -86,9 +86,9 @@ fn after_type(
 fn after_tilde(
     alloc: Global,
     at: u32,
-    tokens: &[Symbol],
+    tokens: Tokens<'_>,
     left: usize,
-) -> Result<((TypeExpr, usize), &[Symbol]), Stop>
+) -> Result<((TypeExpr, usize), Tokens<'_>), Stop>
     ensures { Gives (λ x. (x.0, x.1.now)) result (tilde_by (lower_at left) at tokens.now) }
 {
     let ((ty, fit), rest) = lower_type(alloc, tokens, left)?;
@@ -105,9 +105,9 @@ fn after_tilde(
 #[cycle(types)]
 fn tilde_type(
     alloc: Global,
-    tokens: &[Symbol],
+    tokens: Tokens<'_>,
     left: usize,
-) -> Result<((TypeExpr, usize), &[Symbol]), Stop>
+) -> Result<((TypeExpr, usize), Tokens<'_>), Stop>
     ensures { Gives (λ x. (x.0, x.1.now)) result (tilde_at left (lower_at left) tokens.now) }
 {
     if left == 0 {
@@ -122,9 +122,9 @@ fn tilde_type(
 #[cycle(types)]
 pub(crate) fn union_type(
     alloc: Global,
-    tokens: &[Symbol],
+    tokens: Tokens<'_>,
     left: usize,
-) -> Result<((TypeExpr, usize), &[Symbol]), Stop>
+) -> Result<((TypeExpr, usize), Tokens<'_>), Stop>
     ensures { Gives (λ x. (x.0, x.1.now)) result (union_at left (type_at left) (lower_at left) tokens.now) }
 {
     if starts(Kind::Tilde, tokens) {
@@ -140,9 +140,9 @@ pub(crate) fn union_type(
 fn embedded_elem(
     alloc: Global,
     name: Ident,
-    tokens: &[Symbol],
+    tokens: Tokens<'_>,
     left: usize,
-) -> Result<((ElemExpr, usize), &[Symbol]), Stop>
+) -> Result<((ElemExpr, usize), Tokens<'_>), Stop>
     ensures { Gives (λ x. (x.0, x.1.now)) result (embedded_elem left (lower_at left) name tokens.now) }
 {
     if left == 0 {
@@ -155,7 +155,7 @@ fn embedded_elem(
 }
 
 /// Why no embedded type is read where no node is left for the identifier before these tokens.
-fn no_elem(tokens: &[Symbol]) -> Fault
+fn no_elem(tokens: Tokens<'_>) -> Fault
     ensures { no_elem tokens.now ≡ Err result }
 {
     if starts(Kind::ElementEnd, tokens) {
@@ -170,9 +170,9 @@ fn no_elem(tokens: &[Symbol]) -> Fault
 fn named_elem(
     alloc: Global,
     name: Ident,
-    tokens: &[Symbol],
+    tokens: Tokens<'_>,
     left: usize,
-) -> Result<((ElemExpr, usize), &[Symbol]), Stop>
+) -> Result<((ElemExpr, usize), Tokens<'_>), Stop>
     ensures { Gives (λ x. (x.0, x.1.now)) result (named_elem left (type_at left) (lower_at left) name tokens.now) }
 {
     if starts(Kind::OpenParen, tokens) {
@@ -187,9 +187,9 @@ fn named_elem(
 #[cycle(types)]
 fn one_elem(
     alloc: Global,
-    tokens: &[Symbol],
+    tokens: Tokens<'_>,
     left: usize,
-) -> Result<((ElemExpr, usize), &[Symbol]), Stop>
+) -> Result<((ElemExpr, usize), Tokens<'_>), Stop>
     ensures { Gives (λ x. (x.0, x.1.now)) result (elem_at left (type_at left) (lower_at left) tokens.now) }
 {
     if let Ok((name, rest)) = ident(tokens) {
@@ -204,9 +204,9 @@ fn one_elem(
 #[cycle(types)]
 fn elems(
     alloc: Global,
-    tokens: &[Symbol],
+    tokens: Tokens<'_>,
     left: usize,
-) -> Result<((Items<ElemExpr>, usize), &[Symbol]), Stop>
+) -> Result<((Items<ElemExpr>, usize), Tokens<'_>), Stop>
     ensures { Gives (λ x. (x.0, x.1.now)) result (elems_at left (type_at left) (lower_at left) tokens.now) }
 {
     let mut found = Items::new(alloc);
@@ -222,7 +222,8 @@ fn elems(
         if let Ok(after) = past(Kind::CloseBrace, behind) {
             return Ok(((found, fit), after));
         }
-        rest = past(Kind::Semicolon, behind)?;
+        let next = past(Kind::Semicolon, behind)?;
+        rest = onward(next);
     }
 }
 
@@ -231,9 +232,9 @@ fn elems(
 pub(crate) fn interface_type(
     alloc: Global,
     at: u32,
-    tokens: &[Symbol],
+    tokens: Tokens<'_>,
     left: usize,
-) -> Result<((TypeExpr, usize), &[Symbol]), Stop>
+) -> Result<((TypeExpr, usize), Tokens<'_>), Stop>
     ensures { Gives (λ x. (x.0, x.1.now)) result (interface_by left (type_at left) (lower_at left) at tokens.now) }
 {
     let rest = past(Kind::OpenBrace, tokens)?;

@@ -1,14 +1,14 @@
 ghost use Rattle.std.specs.Prelude.{◌≡◌, ◌<◌, ◌-◌, Err, IfOk};
 ghost use Rattle.go_syntax.specs.Reading.{Exactly, Gives};
-ghost use Rattle.go_syntax.specs.Expressions.{level, is_unary, between_of, text_token, literal, constant, conversion, enclosed, unary, binary};
+ghost use Rattle.go_syntax.specs.Expressions.{level, is_unary, between_of, literal, constant, conversion, enclosed, unary, binary};
 ghost use Rattle.go_syntax.specs.Operands.{uncalled, converted, convert_by, named_by, enclosed_by, signed_by, operand_by, operator_at, climb, level_by, no_expr, expr_of, outer_expr};
 
 use crate::faults::{Fault, Stop};
 use crate::names::dotted;
-use crate::reading::{Kind, past, start, starts, told_at, too_deep};
-use crate::symbols::{Operator, Span, Symbol};
+use crate::reading::{Kind, onward, past, start, starts, told_at, too_deep};
+use crate::symbols::{Operator, Symbol, Tokens};
 use crate::tree::{Expr, NameExpr};
-use go_lexer::{Token, TokenKind};
+use go_lexer::Token;
 use sqlite_items::Boxed;
 use std::alloc::{AllocError, Global};
 
@@ -55,23 +55,23 @@ pub(crate) fn is_unary(op: Operator) -> bool
 }
 
 /// The operator that a token is between two operands.
-fn between_of(symbol: Symbol) -> Option<Operator>
-    ensures { result ≡ between_of symbol }
+fn between_of(symbol: &Symbol) -> Option<Operator>
+    ensures { result ≡ between_of symbol.now }
 {
     match symbol {
         Symbol::Star(_) => Some(Operator::Times),
         Symbol::Bar(_) => Some(Operator::Bar),
-        Symbol::Operator(op, _) => Some(op),
+        Symbol::Operator(op, _) => Some(*op),
         _ => None,
     }
 }
 
 /// The binary operator of this level at the front, and the tokens after it.
-fn operator(level: usize, tokens: &[Symbol]) -> Result<(Operator, &[Symbol]), Fault>
+fn operator(level: usize, tokens: Tokens<'_>) -> Result<(Operator, Tokens<'_>), Fault>
     ensures { Exactly (λ x. (x.0, x.1.now)) result (operator_at level tokens.now) }
 {
     match tokens {
-        [first, rest @ ..] => match between_of(*first) {
+        [first, rest @ ..] => match between_of(first) {
             Some(op) => {
                 if level_of(op) == level {
                     Ok((op, rest))
@@ -82,16 +82,6 @@ fn operator(level: usize, tokens: &[Symbol]) -> Result<(Operator, &[Symbol]), Fa
             None => Err(Fault::Unexpected(tokens.len())),
         },
         [] => Err(Fault::Unexpected(0)),
-    }
-}
-
-fn text_token(text: Span) -> Token
-    ensures { result ≡ text_token text }
-{
-    Token {
-        kind: TokenKind::Text,
-        start: text.start,
-        end: text.end,
     }
 }
 
@@ -164,7 +154,7 @@ fn binary(alloc: Global, op: Operator, left: Operand, right: Operand) -> Result<
 }
 
 /// Why no expression is read where no node is left.
-fn no_expr(tokens: &[Symbol]) -> Fault
+fn no_expr(tokens: Tokens<'_>) -> Fault
     ensures { no_expr tokens.now ≡ Err result }
 {
     if starts(Kind::ExprStart, tokens) {
@@ -177,8 +167,8 @@ fn no_expr(tokens: &[Symbol]) -> Fault
 /// An operand behind which no parenthesis may stand.
 fn uncalled(
     operand: (Operand, usize),
-    tokens: &[Symbol],
-) -> Result<((Operand, usize), &[Symbol]), Fault>
+    tokens: Tokens<'_>,
+) -> Result<((Operand, usize), Tokens<'_>), Fault>
     ensures { Exactly (λ x. (x.0, x.1.now)) result (uncalled operand tokens.now) }
 {
     match tokens {
@@ -196,8 +186,8 @@ fn converted(
     to: NameExpr,
     at: u32,
     inside: (Operand, usize),
-    tokens: &[Symbol],
-) -> Result<((Operand, usize), &[Symbol]), Stop>
+    tokens: Tokens<'_>,
+) -> Result<((Operand, usize), Tokens<'_>), Stop>
     ensures { Gives (λ x. (x.0, x.1.now)) result (converted to at inside tokens.now) }
 {
     if starts(Kind::GoesOn, tokens) {
@@ -215,9 +205,9 @@ fn convert(
     alloc: Global,
     to: NameExpr,
     at: u32,
-    tokens: &[Symbol],
+    tokens: Tokens<'_>,
     left: usize,
-) -> Result<((Operand, usize), &[Symbol]), Stop>
+) -> Result<((Operand, usize), Tokens<'_>), Stop>
     ensures { Gives (λ x. (x.0, x.1.now)) result (convert_by (expr_of left 5) to at tokens.now) }
 {
     if starts(Kind::CloseParen, tokens) {
@@ -232,9 +222,9 @@ fn convert(
 fn named(
     alloc: Global,
     name: NameExpr,
-    tokens: &[Symbol],
+    tokens: Tokens<'_>,
     left: usize,
-) -> Result<((Operand, usize), &[Symbol]), Stop>
+) -> Result<((Operand, usize), Tokens<'_>), Stop>
     ensures { Gives (λ x. (x.0, x.1.now)) result (named_by left (expr_of left 5) name tokens.now) }
 {
     match tokens {
@@ -251,9 +241,9 @@ fn named(
 fn in_parens(
     alloc: Global,
     at: u32,
-    tokens: &[Symbol],
+    tokens: Tokens<'_>,
     left: usize,
-) -> Result<((Operand, usize), &[Symbol]), Stop>
+) -> Result<((Operand, usize), Tokens<'_>), Stop>
     ensures { Gives (λ x. (x.0, x.1.now)) result (enclosed_by (expr_of left 5) at tokens.now) }
 {
     let ((inside, spare), rest) = expression(alloc, tokens, 5, left)?;
@@ -268,9 +258,9 @@ fn signed(
     alloc: Global,
     op: Operator,
     at: u32,
-    tokens: &[Symbol],
+    tokens: Tokens<'_>,
     left: usize,
-) -> Result<((Operand, usize), &[Symbol]), Stop>
+) -> Result<((Operand, usize), Tokens<'_>), Stop>
     ensures { Gives (λ x. (x.0, x.1.now)) result (signed_by (is_unary op) (expr_of left 0) op at tokens.now) }
 {
     if !is_unary(op) {
@@ -285,23 +275,23 @@ fn signed(
 #[cycle(expressions)]
 fn unary_expression(
     alloc: Global,
-    tokens: &[Symbol],
+    tokens: Tokens<'_>,
     left: usize,
-) -> Result<((Operand, usize), &[Symbol]), Stop>
+) -> Result<((Operand, usize), Tokens<'_>), Stop>
     ensures { Gives (λ x. (x.0, x.1.now)) result (operand_by left (expr_of left 0) (expr_of left 5) tokens.now) }
 {
     let [first, rest @ ..] = tokens else {
         return Err(Stop::At(Fault::Unexpected(0)));
     };
-    match *first {
-        Symbol::Literal(token) => Ok(uncalled((literal(token), left), rest)?),
-        Symbol::Text(text) => Ok(uncalled((literal(text_token(text)), left), rest)?),
+    match first {
+        Symbol::Literal(token) => Ok(uncalled((literal(*token), left), rest)?),
+        Symbol::Text(text) => Ok(uncalled((literal(text.token()), left), rest)?),
         Symbol::Ident(name) => {
-            let (name, rest) = dotted(name, rest)?;
+            let (name, rest) = dotted(*name, rest)?;
             named(alloc, name, rest, left)
         }
-        Symbol::OpenParen(at) => in_parens(alloc, at, rest, left),
-        Symbol::Operator(op, at) => signed(alloc, op, at, rest, left),
+        Symbol::OpenParen(at) => in_parens(alloc, *at, rest, left),
+        Symbol::Operator(op, at) => signed(alloc, *op, *at, rest, left),
         _ => Err(Stop::At(Fault::Unexpected(tokens.len()))),
     }
 }
@@ -312,10 +302,10 @@ fn unary_expression(
 fn operators(
     alloc: Global,
     first: (Operand, usize),
-    tokens: &[Symbol],
+    tokens: Tokens<'_>,
     level: usize,
     left: usize,
-) -> Result<((Operand, usize), &[Symbol]), Stop>
+) -> Result<((Operand, usize), Tokens<'_>), Stop>
     requires { 0 < level }
     ensures { Gives (λ x. (x.0, x.1.now)) result (climb level (expr_of left (level - 1)) first tokens.now) }
 {
@@ -331,7 +321,7 @@ fn operators(
         let ((right, other), next) = expression(alloc, after, level - 1, left)?;
         found = binary(alloc, op, found, right)?;
         spare = (spare - 1).min(other);
-        rest = next;
+        rest = onward(next);
     }
 }
 
@@ -340,10 +330,10 @@ fn operators(
 #[cycle(expressions)]
 fn up_to_level(
     alloc: Global,
-    tokens: &[Symbol],
+    tokens: Tokens<'_>,
     level: usize,
     left: usize,
-) -> Result<((Operand, usize), &[Symbol]), Stop>
+) -> Result<((Operand, usize), Tokens<'_>), Stop>
     ensures { Gives (λ x. (x.0, x.1.now)) result (level_by left (expr_of left) level tokens.now) }
 {
     let (mut found, mut rest) = unary_expression(alloc, tokens, left)?;
@@ -362,10 +352,10 @@ fn up_to_level(
 #[cycle(expressions)]
 pub(crate) fn expression(
     alloc: Global,
-    tokens: &[Symbol],
+    tokens: Tokens<'_>,
     level: usize,
     left: usize,
-) -> Result<((Operand, usize), &[Symbol]), Stop>
+) -> Result<((Operand, usize), Tokens<'_>), Stop>
     ensures { Gives (λ x. (x.0, x.1.now)) result (expr_of left level tokens.now) }
 {
     if left == 0 {
@@ -377,9 +367,9 @@ pub(crate) fn expression(
 /// An expression that stands in no other, nor in a type: its first token tells a path that is too long.
 pub(crate) fn outer_expression(
     alloc: Global,
-    tokens: &[Symbol],
+    tokens: Tokens<'_>,
     left: usize,
-) -> Result<((Operand, usize), &[Symbol]), Stop>
+) -> Result<((Operand, usize), Tokens<'_>), Stop>
     ensures { Gives (λ x. (x.0, x.1.now)) result (outer_expr left tokens.now) }
 {
     told_at(start(tokens), expression(alloc, tokens, 5, left))

@@ -4,14 +4,14 @@ ghost use Rattle.go_syntax.specs.Files.{imports_at, tops_at, file_front, file_at
 
 use crate::decls::{import_decl, top_decl};
 use crate::faults::{Fault, Stop};
-use crate::reading::{Kind, ident, past};
-use crate::symbols::Symbol;
+use crate::reading::{Kind, ident, onward, past};
+use crate::symbols::Tokens;
 use crate::tree::{Import, SourceFile, Top};
 use sqlite_items::Items;
 use std::alloc::Global;
 
 /// The imports of a file.
-fn imports(alloc: Global, tokens: &[Symbol]) -> Result<(Items<Import>, &[Symbol]), Stop>
+fn imports(alloc: Global, tokens: Tokens<'_>) -> Result<(Items<Import>, Tokens<'_>), Stop>
     ensures { Gives (λ x. (x.0, x.1.now)) result (imports_at tokens.now) }
 {
     let mut found = Items::new(alloc);
@@ -22,12 +22,12 @@ fn imports(alloc: Global, tokens: &[Symbol]) -> Result<(Items<Import>, &[Symbol]
             return Ok((found, after));
         };
         found.append(more)?;
-        rest = after;
+        rest = onward(after);
     }
 }
 
 /// The declarations of a file.
-fn tops(alloc: Global, tokens: &[Symbol], left: usize) -> Result<(Items<Top>, &[Symbol]), Stop>
+fn tops(alloc: Global, tokens: Tokens<'_>, left: usize) -> Result<(Items<Top>, Tokens<'_>), Stop>
     requires { 2 ≤ left }
     ensures { Gives (λ x. (x.0, x.1.now)) result (tops_at left tokens.now) }
 {
@@ -39,7 +39,7 @@ fn tops(alloc: Global, tokens: &[Symbol], left: usize) -> Result<(Items<Top>, &[
             return Ok((found, after));
         };
         found.append(more)?;
-        rest = after;
+        rest = onward(after);
     }
 }
 
@@ -47,9 +47,9 @@ fn tops(alloc: Global, tokens: &[Symbol], left: usize) -> Result<(Items<Top>, &[
 #[tactic(auto, unfolding(crate::specs::Files::file_front))]
 fn file_front(
     alloc: Global,
-    tokens: &[Symbol],
+    tokens: Tokens<'_>,
     left: usize,
-) -> Result<(SourceFile, &[Symbol]), Stop>
+) -> Result<(SourceFile, Tokens<'_>), Stop>
     requires { 2 ≤ left }
     ensures { Gives (λ x. (x.0, x.1.now)) result (file_front left tokens.now) }
 {
@@ -67,7 +67,7 @@ fn file_front(
 }
 
 /// The file that these tokens are, as the reading of lists has it.
-pub(crate) fn read_file(alloc: Global, tokens: &[Symbol], left: usize) -> Result<SourceFile, Stop>
+pub(crate) fn read_file(alloc: Global, tokens: Tokens<'_>, left: usize) -> Result<SourceFile, Stop>
     requires { 2 ≤ left }
     ensures { Gives (λ f. f) result (file_at left tokens.now) }
 {

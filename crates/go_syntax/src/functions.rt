@@ -5,9 +5,9 @@ ghost use Rattle.go_syntax.specs.Functions.{idents_row, idents_at, args_at, rece
 use crate::faults::{Fault, Stop};
 use crate::generics::generic;
 use crate::params::signature;
-use crate::reading::{Kind, ident, past, single};
+use crate::reading::{Kind, ident, onward, past, single};
 use crate::skipped::skipped;
-use crate::symbols::{Ident, Symbol};
+use crate::symbols::{Ident, Tokens};
 use crate::tree::{FuncDecl, Receiver, TParam};
 use sqlite_items::Items;
 use std::alloc::Global;
@@ -16,8 +16,8 @@ use std::alloc::Global;
 fn ident_row(
     alloc: Global,
     found: Items<Ident>,
-    tokens: &[Symbol],
-) -> Result<(Items<Ident>, &[Symbol]), Stop>
+    tokens: Tokens<'_>,
+) -> Result<(Items<Ident>, Tokens<'_>), Stop>
     ensures { Gives (λ x. (x.0, x.1.now)) result (idents_row found tokens.now) }
 {
     let mut found = found;
@@ -31,12 +31,13 @@ fn ident_row(
         if let Ok(after) = past(Kind::CloseBracket, behind) {
             return Ok((found, after));
         }
-        rest = past(Kind::Comma, behind)?;
+        let next = past(Kind::Comma, behind)?;
+        rest = onward(next);
     }
 }
 
 /// Identifiers up to the bracket that closes, one at least.
-fn idents(alloc: Global, tokens: &[Symbol]) -> Result<(Items<Ident>, &[Symbol]), Stop>
+fn idents(alloc: Global, tokens: Tokens<'_>) -> Result<(Items<Ident>, Tokens<'_>), Stop>
     ensures { Gives (λ x. (x.0, x.1.now)) result (idents_at tokens.now) }
 {
     let (first, rest) = ident(tokens)?;
@@ -49,7 +50,7 @@ fn idents(alloc: Global, tokens: &[Symbol]) -> Result<(Items<Ident>, &[Symbol]),
 }
 
 /// The arguments of a receiver's base, if they come next.
-fn args(alloc: Global, tokens: &[Symbol]) -> Result<(Items<Ident>, &[Symbol]), Stop>
+fn args(alloc: Global, tokens: Tokens<'_>) -> Result<(Items<Ident>, Tokens<'_>), Stop>
     ensures { Gives (λ x. (x.0, x.1.now)) result (args_at tokens.now) }
 {
     if let Ok(rest) = past(Kind::OpenBracket, tokens) {
@@ -59,7 +60,7 @@ fn args(alloc: Global, tokens: &[Symbol]) -> Result<(Items<Ident>, &[Symbol]), S
 }
 
 /// The end of a receiver.
-fn receiver_end(receiver: Receiver, tokens: &[Symbol]) -> Result<(Receiver, &[Symbol]), Fault>
+fn receiver_end(receiver: Receiver, tokens: Tokens<'_>) -> Result<(Receiver, Tokens<'_>), Fault>
     ensures { Exactly (λ x. (x.0, x.1.now)) result (receiver_end receiver tokens.now) }
 {
     if let Ok(rest) = past(Kind::Comma, tokens) {
@@ -76,8 +77,8 @@ fn receiver_base(
     name: Option<Ident>,
     pointer: bool,
     base: Ident,
-    tokens: &[Symbol],
-) -> Result<(Receiver, &[Symbol]), Stop>
+    tokens: Tokens<'_>,
+) -> Result<(Receiver, Tokens<'_>), Stop>
     ensures { Gives (λ x. (x.0, x.1.now)) result (receiver_base name pointer base tokens.now) }
 {
     let (args, rest) = args(alloc, tokens)?;
@@ -94,8 +95,8 @@ fn receiver_base(
 fn receiver_pointer(
     alloc: Global,
     name: Option<Ident>,
-    tokens: &[Symbol],
-) -> Result<(Receiver, &[Symbol]), Stop>
+    tokens: Tokens<'_>,
+) -> Result<(Receiver, Tokens<'_>), Stop>
     ensures { Gives (λ x. (x.0, x.1.now)) result (receiver_pointer name tokens.now) }
 {
     let (base, rest) = ident(tokens)?;
@@ -106,8 +107,8 @@ fn receiver_pointer(
 fn receiver_first(
     alloc: Global,
     name: Ident,
-    tokens: &[Symbol],
-) -> Result<(Receiver, &[Symbol]), Stop>
+    tokens: Tokens<'_>,
+) -> Result<(Receiver, Tokens<'_>), Stop>
     ensures { Gives (λ x. (x.0, x.1.now)) result (receiver_first name tokens.now) }
 {
     if let Ok((base, rest)) = ident(tokens) {
@@ -120,7 +121,7 @@ fn receiver_first(
 }
 
 /// A receiver, after its parenthesis.
-fn receiver(alloc: Global, tokens: &[Symbol]) -> Result<(Receiver, &[Symbol]), Stop>
+fn receiver(alloc: Global, tokens: Tokens<'_>) -> Result<(Receiver, Tokens<'_>), Stop>
     ensures { Gives (λ x. (x.0, x.1.now)) result (receiver_at tokens.now) }
 {
     if let Ok(rest) = past(Kind::Star, tokens) {
@@ -134,8 +135,8 @@ fn receiver(alloc: Global, tokens: &[Symbol]) -> Result<(Receiver, &[Symbol]), S
 fn with_body(
     alloc: Global,
     func: FuncDecl,
-    tokens: &[Symbol],
-) -> Result<(FuncDecl, &[Symbol]), Stop>
+    tokens: Tokens<'_>,
+) -> Result<(FuncDecl, Tokens<'_>), Stop>
     ensures { Gives (λ x. (x.0, x.1.now)) result (body_at func tokens.now) }
 {
     if let Ok(rest) = past(Kind::OpenBrace, tokens) {
@@ -152,9 +153,9 @@ fn with_signature(
     receiver: Option<Receiver>,
     name: Ident,
     tparams: Items<TParam>,
-    tokens: &[Symbol],
+    tokens: Tokens<'_>,
     left: usize,
-) -> Result<(FuncDecl, &[Symbol]), Stop>
+) -> Result<(FuncDecl, Tokens<'_>), Stop>
     ensures { Gives (λ x. (x.0, x.1.now)) result (func_sig left receiver name tparams tokens.now) }
 {
     let ((sig, _), rest) = signature(alloc, tokens, left)?;
@@ -171,9 +172,9 @@ fn with_signature(
 fn named_method(
     alloc: Global,
     receiver: Receiver,
-    tokens: &[Symbol],
+    tokens: Tokens<'_>,
     left: usize,
-) -> Result<(FuncDecl, &[Symbol]), Stop>
+) -> Result<(FuncDecl, Tokens<'_>), Stop>
     ensures { Gives (λ x. (x.0, x.1.now)) result (method_name left receiver tokens.now) }
 {
     let (name, rest) = ident(tokens)?;
@@ -181,7 +182,11 @@ fn named_method(
 }
 
 /// A function without a receiver, after its keyword.
-fn named_func(alloc: Global, tokens: &[Symbol], left: usize) -> Result<(FuncDecl, &[Symbol]), Stop>
+fn named_func(
+    alloc: Global,
+    tokens: Tokens<'_>,
+    left: usize,
+) -> Result<(FuncDecl, Tokens<'_>), Stop>
     ensures { Gives (λ x. (x.0, x.1.now)) result (func_name left tokens.now) }
 {
     let (name, rest) = ident(tokens)?;
@@ -192,9 +197,9 @@ fn named_func(alloc: Global, tokens: &[Symbol], left: usize) -> Result<(FuncDecl
 /// A function or a method, after its keyword.
 pub(crate) fn func_decl(
     alloc: Global,
-    tokens: &[Symbol],
+    tokens: Tokens<'_>,
     left: usize,
-) -> Result<(FuncDecl, &[Symbol]), Stop>
+) -> Result<(FuncDecl, Tokens<'_>), Stop>
     ensures { Gives (λ x. (x.0, x.1.now)) result (func_at left tokens.now) }
 {
     if let Ok(rest) = past(Kind::OpenParen, tokens) {

@@ -5,15 +5,15 @@ ghost use Rattle.go_syntax.specs.Generics.{opens_params, constraint_at, tparam_t
 use crate::elements::union_type;
 use crate::faults::Stop;
 use crate::names::more_names;
-use crate::reading::{Kind, ident, past, single, start, starts, told_at};
-use crate::symbols::{Ident, Symbol};
+use crate::reading::{Kind, ident, onward, past, single, start, starts, told_at};
+use crate::symbols::{Ident, Symbol, Tokens};
 use crate::tree::{TParam, TypeExpr};
 use sqlite_items::Items;
 use std::alloc::Global;
 
 /// Whether type parameters come next after a declared type's name, and not an array: a bracket and an
 /// identifier, and no token behind them that goes on with a length or ends it.
-pub(crate) fn opens_params(tokens: &[Symbol]) -> bool
+pub(crate) fn opens_params(tokens: Tokens<'_>) -> bool
     ensures { result ≡ opens_params tokens.now }
 {
     match tokens {
@@ -25,9 +25,9 @@ pub(crate) fn opens_params(tokens: &[Symbol]) -> bool
 /// A constraint, whose own first token tells a path that is too long.
 fn constraint(
     alloc: Global,
-    tokens: &[Symbol],
+    tokens: Tokens<'_>,
     left: usize,
-) -> Result<((TypeExpr, usize), &[Symbol]), Stop>
+) -> Result<((TypeExpr, usize), Tokens<'_>), Stop>
     ensures { Gives (λ x. (x.0, x.1.now)) result (constraint_at left tokens.now) }
 {
     told_at(start(tokens), union_type(alloc, tokens, left))
@@ -38,9 +38,9 @@ fn constrained(
     alloc: Global,
     names: Items<Ident>,
     at: u32,
-    tokens: &[Symbol],
+    tokens: Tokens<'_>,
     left: usize,
-) -> Result<(TParam, &[Symbol]), Stop>
+) -> Result<(TParam, Tokens<'_>), Stop>
     ensures { Gives (λ x. (x.0, x.1.now)) result (tparam_type left names at tokens.now) }
 {
     let ((constraint, _), rest) = constraint(alloc, tokens, left)?;
@@ -56,9 +56,9 @@ fn constrained(
 fn first_tparam(
     alloc: Global,
     first: Ident,
-    tokens: &[Symbol],
+    tokens: Tokens<'_>,
     left: usize,
-) -> Result<(TParam, &[Symbol]), Stop>
+) -> Result<(TParam, Tokens<'_>), Stop>
     ensures { Gives (λ x. (x.0, x.1.now)) result (tparam_first left first tokens.now) }
 {
     if let Ok(rest) = past(Kind::Comma, tokens) {
@@ -70,7 +70,7 @@ fn first_tparam(
 }
 
 /// Type parameters that share a constraint.
-fn one_tparam(alloc: Global, tokens: &[Symbol], left: usize) -> Result<(TParam, &[Symbol]), Stop>
+fn one_tparam(alloc: Global, tokens: Tokens<'_>, left: usize) -> Result<(TParam, Tokens<'_>), Stop>
     ensures { Gives (λ x. (x.0, x.1.now)) result (tparam_at left tokens.now) }
 {
     let (first, rest) = ident(tokens)?;
@@ -81,9 +81,9 @@ fn one_tparam(alloc: Global, tokens: &[Symbol], left: usize) -> Result<(TParam, 
 fn tparam_row(
     alloc: Global,
     found: Items<TParam>,
-    tokens: &[Symbol],
+    tokens: Tokens<'_>,
     left: usize,
-) -> Result<(Items<TParam>, &[Symbol]), Stop>
+) -> Result<(Items<TParam>, Tokens<'_>), Stop>
     ensures { Gives (λ x. (x.0, x.1.now)) result (tparams_row left found tokens.now) }
 {
     let mut found = found;
@@ -97,16 +97,17 @@ fn tparam_row(
         if let Ok(after) = past(Kind::CloseBracket, behind) {
             return Ok((found, after));
         }
-        rest = past(Kind::Comma, behind)?;
+        let next = past(Kind::Comma, behind)?;
+        rest = onward(next);
     }
 }
 
 /// Type parameters up to the bracket that closes, one at least.
 pub(crate) fn type_params(
     alloc: Global,
-    tokens: &[Symbol],
+    tokens: Tokens<'_>,
     left: usize,
-) -> Result<(Items<TParam>, &[Symbol]), Stop>
+) -> Result<(Items<TParam>, Tokens<'_>), Stop>
     ensures { Gives (λ x. (x.0, x.1.now)) result (tparams_at left tokens.now) }
 {
     let (first, rest) = one_tparam(alloc, tokens, left)?;
@@ -121,9 +122,9 @@ pub(crate) fn type_params(
 /// The type parameters of a function, if they come next.
 pub(crate) fn generic(
     alloc: Global,
-    tokens: &[Symbol],
+    tokens: Tokens<'_>,
     left: usize,
-) -> Result<(Items<TParam>, &[Symbol]), Stop>
+) -> Result<(Items<TParam>, Tokens<'_>), Stop>
     ensures { Gives (λ x. (x.0, x.1.now)) result (generic_at left tokens.now) }
 {
     if let Ok(rest) = past(Kind::OpenBracket, tokens) {

@@ -158,7 +158,7 @@ fn an_instance_has_its_arguments_and_its_place(rt: HostRuntime) -> Result<(), Fa
     let name =
         "NameExpr { package: Some(Ident { start: 27, end: 28 }), name: Ident { start: 29, end: 30 }, at: 27 }";
     let first = format!(in rt.alloc();
-        "FieldExpr {{ names: Items {{ items: [] }}, ty: Name {{ name: {name}, args: Items {{ items: [{c}, {d}] }}, at: 27 }}, tag: None, at: 27 }}"
+        "FieldExpr {{ names: Items {{ items: [] }}, ty: Name {{ name: {name}, args: Items {{ items: [{c}, {d}] }}, at: 27 }}, tag: Bytes {{ items: [] }}, at: 27 }}"
     )?;
     assert!(rt; found.contains(first.as_str()));
     let array = "FieldExpr { names: Items { items: [Ident { start: 38, end: 39 }] }, ty: Array {";
@@ -166,7 +166,7 @@ fn an_instance_has_its_arguments_and_its_place(rt: HostRuntime) -> Result<(), Fa
     let i = named(rt.alloc(), 48)?;
     let name = "NameExpr { package: None, name: Ident { start: 46, end: 47 }, at: 46 }";
     let last = format!(in rt.alloc();
-        "FieldExpr {{ names: Items {{ items: [] }}, ty: Name {{ name: {name}, args: Items {{ items: [{i}] }}, at: 46 }}, tag: None, at: 46 }}"
+        "FieldExpr {{ names: Items {{ items: [] }}, ty: Name {{ name: {name}, args: Items {{ items: [{i}] }}, at: 46 }}, tag: Bytes {{ items: [] }}, at: 46 }}"
     )?;
     assert!(rt; found.contains(last.as_str()));
     Ok(())

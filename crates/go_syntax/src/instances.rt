@@ -5,8 +5,8 @@ ghost use Rattle.go_syntax.specs.Types.{type_at};
 
 use crate::faults::Stop;
 use crate::names::dotted;
-use crate::reading::{Kind, past, single, told_at};
-use crate::symbols::{Ident, Symbol};
+use crate::reading::{Kind, onward, past, single, told_at};
+use crate::symbols::{Ident, Tokens};
 use crate::tree::{NameExpr, TypeExpr};
 use crate::types::type_expr;
 use sqlite_items::Items;
@@ -17,9 +17,9 @@ use std::alloc::Global;
 fn arg_row(
     alloc: Global,
     found: (Items<TypeExpr>, usize),
-    tokens: &[Symbol],
+    tokens: Tokens<'_>,
     left: usize,
-) -> Result<((Items<TypeExpr>, usize), &[Symbol]), Stop>
+) -> Result<((Items<TypeExpr>, usize), Tokens<'_>), Stop>
     requires { found.1 ≤ left }
     ensures { Gives (λ x. (x.0, x.1.now)) result (with_fit found (series (type_list left) (type_at left) tokens.now)) }
 {
@@ -35,7 +35,8 @@ fn arg_row(
         if let Ok(after) = past(Kind::CloseBracket, behind) {
             return Ok(((args, fit), after));
         }
-        rest = past(Kind::Comma, behind)?;
+        let next = past(Kind::Comma, behind)?;
+        rest = onward(next);
     }
 }
 
@@ -43,9 +44,9 @@ fn arg_row(
 #[cycle(types)]
 fn type_args(
     alloc: Global,
-    tokens: &[Symbol],
+    tokens: Tokens<'_>,
     left: usize,
-) -> Result<((Items<TypeExpr>, usize), &[Symbol]), Stop>
+) -> Result<((Items<TypeExpr>, usize), Tokens<'_>), Stop>
     ensures { Gives (λ x. (x.0, x.1.now)) result (types_at left (type_at left) tokens.now) }
 {
     let ((first, fit), rest) = type_expr(alloc, tokens, left)?;
@@ -63,9 +64,9 @@ fn type_args(
 fn with_args(
     alloc: Global,
     name: NameExpr,
-    tokens: &[Symbol],
+    tokens: Tokens<'_>,
     left: usize,
-) -> Result<((TypeExpr, usize), &[Symbol]), Stop>
+) -> Result<((TypeExpr, usize), Tokens<'_>), Stop>
     ensures { Gives (λ x. (x.0, x.1.now)) result (args_by left (type_at left) name tokens.now) }
 {
     let at = name.at;
@@ -82,9 +83,9 @@ fn with_args(
 pub(crate) fn named_type(
     alloc: Global,
     first: Ident,
-    tokens: &[Symbol],
+    tokens: Tokens<'_>,
     left: usize,
-) -> Result<((TypeExpr, usize), &[Symbol]), Stop>
+) -> Result<((TypeExpr, usize), Tokens<'_>), Stop>
     ensures { Gives (λ x. (x.0, x.1.now)) result (name_by left (type_at left) first tokens.now) }
 {
     let (name, rest) = dotted(first, tokens)?;
@@ -96,9 +97,9 @@ pub(crate) fn named_type(
 pub(crate) fn begun_type(
     alloc: Global,
     first: Ident,
-    tokens: &[Symbol],
+    tokens: Tokens<'_>,
     left: usize,
-) -> Result<((TypeExpr, usize), &[Symbol]), Stop>
+) -> Result<((TypeExpr, usize), Tokens<'_>), Stop>
     ensures { Gives (λ x. (x.0, x.1.now)) result (told_at first.start (name_by left (type_at left) first tokens.now)) }
 {
     told_at(first.start, named_type(alloc, first, tokens, left))

@@ -24,7 +24,7 @@ mod types;
 
 pub use outcomes::{no_fault_of_a_file, one_place, one_tree};
 pub use parsing::{SyntaxFault, What, parse};
-pub use symbols::{Ident, Operator, Span};
+pub use symbols::{Ident, Operator};
 pub use tree::{
     ConstSpec, ElemExpr, Expr, FieldExpr, FuncDecl, Import, NameExpr, ParamExpr, Receiver, SigExpr,
     SourceFile, TParam, TermExpr, Top, TypeExpr, TypeSpec, VarSpec,
@@ -44,5 +44,7 @@ mod generic_tests;
 mod instance_tests;
 #[cfg(test)]
 mod tests;
+#[cfg(test)]
+mod text_tests;
 #[cfg(test)]
 mod type_tests;

@@ -1,16 +1,18 @@
-ghost use Rattle.std.specs.Prelude.{◌≡◌, Ok};
+ghost use Rattle.std.specs.Prelude.{◌≡◌, Ok, IfOk};
 ghost use Rattle.go_syntax.specs.Reading.{Exactly, Gives};
 ghost use Rattle.go_syntax.specs.Names.{dotted, tag_at, names_at, names_more};
 
 use crate::faults::{Fault, Stop};
-use crate::reading::{Kind, ident, past};
-use crate::symbols::{Ident, Span, Symbol};
+use crate::reading::{Kind, ident, onward, past};
+use crate::symbols::{Ident, Symbol, Tokens};
 use crate::tree::NameExpr;
+use code_tables::Bytes;
 use sqlite_items::Items;
-use std::alloc::Global;
+use std::alloc::{AllocError, Global};
+use string_literals::unquoted;
 
 /// The name of a type, after its first identifier.
-pub(crate) fn dotted(first: Ident, tokens: &[Symbol]) -> Result<(NameExpr, &[Symbol]), Fault>
+pub(crate) fn dotted(first: Ident, tokens: Tokens<'_>) -> Result<(NameExpr, Tokens<'_>), Fault>
     ensures { Exactly (λ x. (x.0, x.1.now)) result (dotted first tokens.now) }
 {
     if let Ok(rest) = past(Kind::Dot, tokens) {
@@ -30,16 +32,16 @@ pub(crate) fn dotted(first: Ident, tokens: &[Symbol]) -> Result<(NameExpr, &[Sym
     Ok((plain, tokens))
 }
 
-/// A field's tag, if one comes next.
-pub(crate) fn tag(tokens: &[Symbol]) -> (Option<Span>, &[Symbol])
-    ensures { tag_at tokens.now ≡ Ok (result.0, result.1.now) }
+/// The value of a field's tag, if one comes next, and else the empty one.
+pub(crate) fn tag(alloc: Global, tokens: Tokens<'_>) -> Result<(Bytes, Tokens<'_>), AllocError>
+    ensures { IfOk result (λ x. tag_at tokens.now ≡ Ok (x.0, x.1.now)) }
 {
     match tokens {
-        [first, rest @ ..] => match *first {
-            Symbol::Text(tag) => (Some(tag), rest),
-            _ => (None, tokens),
+        [first, rest @ ..] => match first {
+            Symbol::Text(tag) => Ok((unquoted(alloc, tag.text())?, rest)),
+            _ => Ok((Bytes::new(alloc), tokens)),
         },
-        [] => (None, tokens),
+        [] => Ok((Bytes::new(alloc), tokens)),
     }
 }
 
@@ -47,8 +49,8 @@ pub(crate) fn tag(tokens: &[Symbol]) -> (Option<Span>, &[Symbol])
 pub(crate) fn more_names(
     alloc: Global,
     first: Ident,
-    tokens: &[Symbol],
-) -> Result<(Items<Ident>, &[Symbol]), Stop>
+    tokens: Tokens<'_>,
+) -> Result<(Items<Ident>, Tokens<'_>), Stop>
     ensures { Gives (λ x. (x.0, x.1.now)) result (names_more names_at first tokens.now) }
 {
     let mut names = Items::new(alloc);
@@ -60,6 +62,6 @@ pub(crate) fn more_names(
         let Ok(next) = past(Kind::Comma, after) else {
             return Ok((names, after));
         };
-        rest = next;
+        rest = onward(next);
     }
 }

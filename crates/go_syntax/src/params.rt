@@ -7,8 +7,8 @@ use crate::either::after_fault;
 use crate::faults::{Fault, Stop};
 use crate::instances::begun_type;
 use crate::names::more_names;
-use crate::reading::{Kind, ident, past, single, start, starts, too_deep};
-use crate::symbols::{Ident, Symbol};
+use crate::reading::{Kind, ident, onward, past, single, start, starts, too_deep};
+use crate::symbols::{Ident, Symbol, Tokens};
 use crate::tree::{NameExpr, ParamExpr, SigExpr, TypeExpr};
 use crate::types::type_expr;
 use sqlite_items::Items;
@@ -76,7 +76,7 @@ fn bare_params(alloc: Global, names: &[Ident]) -> Result<Items<ParamExpr>, Alloc
 }
 
 /// Why no types are read where no node is left for the identifiers before these tokens.
-fn no_bare(variadic: bool, tokens: &[Symbol]) -> Fault
+fn no_bare(variadic: bool, tokens: Tokens<'_>) -> Fault
     ensures { no_bare variadic tokens.now ≡ Err result }
 {
     let kind = if variadic {
@@ -98,9 +98,9 @@ fn param_type(
     names: Items<Ident>,
     variadic: bool,
     at: u32,
-    tokens: &[Symbol],
+    tokens: Tokens<'_>,
     left: usize,
-) -> Result<(Param, &[Symbol]), Stop>
+) -> Result<(Param, Tokens<'_>), Stop>
     ensures { Gives (λ x. (x.0, x.1.now)) result (param_type (type_at left) names variadic at tokens.now) }
 {
     let ((ty, fit), rest) = type_expr(alloc, tokens, left)?;
@@ -116,7 +116,7 @@ fn param_type(
 
 /// A parameter that is a type.
 #[cycle(types)]
-fn type_param(alloc: Global, tokens: &[Symbol], left: usize) -> Result<(Param, &[Symbol]), Stop>
+fn type_param(alloc: Global, tokens: Tokens<'_>, left: usize) -> Result<(Param, Tokens<'_>), Stop>
     ensures { Gives (λ x. (x.0, x.1.now)) result (type_param (type_at left) tokens.now) }
 {
     let at = start(tokens);
@@ -136,9 +136,9 @@ fn type_param(alloc: Global, tokens: &[Symbol], left: usize) -> Result<(Param, &
 fn unnamed_param(
     alloc: Global,
     variadic: bool,
-    tokens: &[Symbol],
+    tokens: Tokens<'_>,
     left: usize,
-) -> Result<(Param, &[Symbol]), Stop>
+) -> Result<(Param, Tokens<'_>), Stop>
     ensures { Gives (λ x. (x.0, x.1.now)) result (unnamed_param variadic (type_at left) tokens.now) }
 {
     if !variadic {
@@ -157,9 +157,9 @@ fn lone_param(
     alloc: Global,
     variadic: bool,
     name: Ident,
-    tokens: &[Symbol],
+    tokens: Tokens<'_>,
     left: usize,
-) -> Result<(Param, &[Symbol]), Stop>
+) -> Result<(Param, Tokens<'_>), Stop>
     ensures { Gives (λ x. (x.0, x.1.now)) result (lone_param variadic (type_at left) name tokens.now) }
 {
     let names = single(alloc, name)?;
@@ -178,9 +178,9 @@ fn first_param(
     alloc: Global,
     variadic: bool,
     name: Ident,
-    tokens: &[Symbol],
+    tokens: Tokens<'_>,
     left: usize,
-) -> Result<(Param, &[Symbol]), Stop>
+) -> Result<(Param, Tokens<'_>), Stop>
     ensures { Gives (λ x. (x.0, x.1.now)) result (first_param variadic (type_at left) name tokens.now) }
 {
     if let Ok(rest) = past(Kind::Comma, tokens) {
@@ -196,9 +196,9 @@ fn one_param(
     alloc: Global,
     named: bool,
     variadic: bool,
-    tokens: &[Symbol],
+    tokens: Tokens<'_>,
     left: usize,
-) -> Result<(Param, &[Symbol]), Stop>
+) -> Result<(Param, Tokens<'_>), Stop>
     ensures { Gives (λ x. (x.0, x.1.now)) result (param_at named variadic (type_at left) tokens.now) }
 {
     if named {
@@ -215,9 +215,9 @@ fn param_row(
     found: (Items<ParamExpr>, usize),
     named: bool,
     variadic: bool,
-    tokens: &[Symbol],
+    tokens: Tokens<'_>,
     left: usize,
-) -> Result<((Items<ParamExpr>, usize), &[Symbol]), Stop>
+) -> Result<((Items<ParamExpr>, usize), Tokens<'_>), Stop>
     requires { found.1 ≤ left }
     ensures { Gives (λ x. (x.0, x.1.now)) result (with_fit found (params_row named variadic left (type_at left) tokens.now)) }
 {
@@ -234,11 +234,12 @@ fn param_row(
         if let Ok(after) = past(Kind::CloseParen, behind) {
             return Ok(((params, fit), after));
         }
-        rest = past(Kind::Comma, behind)?;
+        let next = past(Kind::Comma, behind)?;
         if last {
-            let after = past(Kind::CloseParen, rest)?;
+            let after = past(Kind::CloseParen, next)?;
             return Ok(((params, fit), after));
         }
+        rest = onward(next);
     }
 }
 
@@ -250,9 +251,9 @@ fn param_end(
     param: Param,
     named: bool,
     variadic: bool,
-    tokens: &[Symbol],
+    tokens: Tokens<'_>,
     left: usize,
-) -> Result<((Items<ParamExpr>, usize), &[Symbol]), Stop>
+) -> Result<((Items<ParamExpr>, usize), Tokens<'_>), Stop>
     requires { found.1 ≤ left }
     ensures { Gives (λ x. (x.0, x.1.now)) result (with_fit found (params_end named variadic left (type_at left) param tokens.now)) }
 {
@@ -277,9 +278,9 @@ fn after_bare<'a>(
     alloc: Global,
     names: &[Ident],
     variadic: bool,
-    tokens: &'a [Symbol],
+    tokens: Tokens<'a>,
     left: usize,
-) -> Result<((Items<ParamExpr>, usize), &'a [Symbol]), Stop>
+) -> Result<((Items<ParamExpr>, usize), Tokens<'a>), Stop>
     ensures { Gives (λ x. (x.0, x.1.now)) result (after_bare variadic left (type_at left) names.now tokens.now) }
 {
     if names.is_empty() {
@@ -306,9 +307,9 @@ fn first_type<'a>(
     names: &[Ident],
     name: Ident,
     variadic: bool,
-    tokens: &'a [Symbol],
+    tokens: Tokens<'a>,
     left: usize,
-) -> Result<((Items<ParamExpr>, usize), &'a [Symbol]), Stop>
+) -> Result<((Items<ParamExpr>, usize), Tokens<'a>), Stop>
     ensures { Gives (λ x. (x.0, x.1.now)) result (types_by variadic left (type_at left) names.now name tokens.now) }
 {
     if left == 0 {
@@ -335,9 +336,9 @@ fn shared_param(
     names: Items<Ident>,
     name: Ident,
     variadic: bool,
-    tokens: &[Symbol],
+    tokens: Tokens<'_>,
     left: usize,
-) -> Result<(Param, &[Symbol]), Stop>
+) -> Result<(Param, Tokens<'_>), Stop>
     ensures { Gives (λ x. (x.0, x.1.now)) result (names_by variadic (type_at left) names name tokens.now) }
 {
     let Some(first) = names.get(0) else {
@@ -356,9 +357,9 @@ fn array_or_instance<'a>(
     names: &[Ident],
     name: Ident,
     variadic: bool,
-    tokens: &'a [Symbol],
+    tokens: Tokens<'a>,
     left: usize,
-) -> Result<((Items<ParamExpr>, usize), &'a [Symbol]), Stop>
+) -> Result<((Items<ParamExpr>, usize), Tokens<'a>), Stop>
     ensures { Gives (λ x. (x.0, x.1.now)) result (array_or_instance variadic left (type_at left) names.now name tokens.now) }
 {
     let own = Items::from_slice(alloc, names)?;
@@ -380,9 +381,9 @@ fn after_ident(
     names: Items<Ident>,
     name: Ident,
     variadic: bool,
-    tokens: &[Symbol],
+    tokens: Tokens<'_>,
     left: usize,
-) -> Result<((Items<ParamExpr>, usize), &[Symbol]), Stop>
+) -> Result<((Items<ParamExpr>, usize), Tokens<'_>), Stop>
     ensures { Gives (λ x. (x.0, x.1.now)) result (after_ident variadic left (type_at left) names name tokens.now) }
 {
     if starts(Kind::ParamEnd, tokens) {
@@ -401,9 +402,9 @@ fn named_params(
     names: Items<Ident>,
     name: Ident,
     variadic: bool,
-    tokens: &[Symbol],
+    tokens: Tokens<'_>,
     left: usize,
-) -> Result<((Items<ParamExpr>, usize), &[Symbol]), Stop>
+) -> Result<((Items<ParamExpr>, usize), Tokens<'_>), Stop>
     ensures { Gives (λ x. (x.0, x.1.now)) result (named_by variadic left (type_at left) names name tokens.now) }
 {
     let (param, rest) = shared_param(alloc, names, name, variadic, tokens, left)?;
@@ -423,9 +424,9 @@ fn named_params(
 fn params(
     alloc: Global,
     variadic: bool,
-    tokens: &[Symbol],
+    tokens: Tokens<'_>,
     left: usize,
-) -> Result<((Items<ParamExpr>, usize), &[Symbol]), Stop>
+) -> Result<((Items<ParamExpr>, usize), Tokens<'_>), Stop>
     ensures { Gives (λ x. (x.0, x.1.now)) result (params_from variadic left (type_at left) [] tokens.now) }
 {
     let mut names = Items::new(alloc);
@@ -438,7 +439,7 @@ fn params(
             return after_ident(alloc, names, name, variadic, after, left);
         };
         names.push(name)?;
-        rest = next;
+        rest = onward(next);
     }
 }
 
@@ -448,9 +449,9 @@ fn results(
     alloc: Global,
     params: (Items<ParamExpr>, usize),
     at: u32,
-    tokens: &[Symbol],
+    tokens: Tokens<'_>,
     left: usize,
-) -> Result<((SigExpr, usize), &[Symbol]), Stop>
+) -> Result<((SigExpr, usize), Tokens<'_>), Stop>
     ensures { Gives (λ x. (x.0, x.1.now)) result (results_by left (type_at left) at params tokens.now) }
 {
     let (params, fit) = params;
@@ -487,9 +488,9 @@ fn results(
 #[cycle(types)]
 pub(crate) fn signature(
     alloc: Global,
-    tokens: &[Symbol],
+    tokens: Tokens<'_>,
     left: usize,
-) -> Result<((SigExpr, usize), &[Symbol]), Stop>
+) -> Result<((SigExpr, usize), Tokens<'_>), Stop>
     ensures { Gives (λ x. (x.0, x.1.now)) result (sig_at left (type_at left) tokens.now) }
 {
     let [first, rest @ ..] = tokens else {

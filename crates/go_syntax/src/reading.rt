@@ -7,7 +7,7 @@ ghost use Rattle.go_syntax.specs.Names.{ident_at};
 
 use crate::expressions::is_unary;
 use crate::faults::{Fault, Stop};
-use crate::symbols::{Ident, Symbol};
+use crate::symbols::{Ident, Symbol, Tokens};
 use sqlite_items::Items;
 use std::alloc::{AllocError, AllocFailed, Global};
 
@@ -88,8 +88,8 @@ pub(crate) enum Kind {
 }
 
 /// Whether a type begins with this token.
-fn begins_type(symbol: Symbol) -> bool
-    ensures { result ≡ is_of Kind.TypeStart symbol }
+fn begins_type(symbol: &Symbol) -> bool
+    ensures { result ≡ is_of Kind.TypeStart symbol.now }
 {
     matches!(
         symbol,
@@ -107,19 +107,19 @@ fn begins_type(symbol: Symbol) -> bool
 }
 
 /// Whether an expression begins with this token.
-fn begins_expr(symbol: Symbol) -> bool
-    ensures { result ≡ is_of Kind.ExprStart symbol }
+fn begins_expr(symbol: &Symbol) -> bool
+    ensures { result ≡ is_of Kind.ExprStart symbol.now }
 {
     match symbol {
         Symbol::Literal(_) | Symbol::Text(_) | Symbol::Ident(_) | Symbol::OpenParen(_) => true,
-        Symbol::Operator(op, _) => is_unary(op),
+        Symbol::Operator(op, _) => is_unary(*op),
         _ => false,
     }
 }
 
 /// Whether this token shows that the identifier before it is an embedded type.
-fn shows_embedded(symbol: Symbol) -> bool
-    ensures { result ≡ is_of Kind.EmbeddedEnd symbol }
+fn shows_embedded(symbol: &Symbol) -> bool
+    ensures { result ≡ is_of Kind.EmbeddedEnd symbol.now }
 {
     matches!(
         symbol,
@@ -128,8 +128,8 @@ fn shows_embedded(symbol: Symbol) -> bool
 }
 
 /// Whether this token shows that the identifiers before it are types of parameters.
-fn shows_types(variadic: bool, symbol: Symbol) -> bool
-    ensures { result ≡ shows_types variadic symbol }
+fn shows_types(variadic: bool, symbol: &Symbol) -> bool
+    ensures { result ≡ shows_types variadic symbol.now }
 {
     match symbol {
         Symbol::CloseParen(_) => true,
@@ -139,8 +139,8 @@ fn shows_types(variadic: bool, symbol: Symbol) -> bool
 }
 
 /// Whether this token shows that the identifier before it is an embedded type of an interface.
-fn shows_elem(symbol: Symbol) -> bool
-    ensures { result ≡ is_of Kind.ElementEnd symbol }
+fn shows_elem(symbol: &Symbol) -> bool
+    ensures { result ≡ is_of Kind.ElementEnd symbol.now }
 {
     matches!(
         symbol,
@@ -153,8 +153,8 @@ fn shows_elem(symbol: Symbol) -> bool
 }
 
 /// Whether this token goes on with the length of an array after an identifier, or ends it.
-fn shows_length(symbol: Symbol) -> bool
-    ensures { result ≡ is_of Kind.LengthEnd symbol }
+fn shows_length(symbol: &Symbol) -> bool
+    ensures { result ≡ is_of Kind.LengthEnd symbol.now }
 {
     matches!(
         symbol,
@@ -168,8 +168,8 @@ fn shows_length(symbol: Symbol) -> bool
 }
 
 /// Whether a token is of this kind.
-fn is_of(kind: Kind, symbol: Symbol) -> bool
-    ensures { result ≡ is_of kind symbol }
+fn is_of(kind: Kind, symbol: &Symbol) -> bool
+    ensures { result ≡ is_of kind symbol.now }
 {
     match kind {
         Kind::Ident => matches!(symbol, Symbol::Ident(_)),
@@ -208,12 +208,12 @@ fn is_of(kind: Kind, symbol: Symbol) -> bool
 }
 
 /// The tokens after one of this kind.
-pub(crate) fn past(kind: Kind, tokens: &[Symbol]) -> Result<&[Symbol], Fault>
+pub(crate) fn past(kind: Kind, tokens: Tokens<'_>) -> Result<Tokens<'_>, Fault>
     ensures { Exactly (λ x. x.now) result (past (is_of kind) tokens.now) }
 {
     match tokens {
         [first, rest @ ..] => {
-            if is_of(kind, *first) {
+            if is_of(kind, first) {
                 Ok(rest)
             } else {
                 Err(Fault::Unexpected(tokens.len()))
@@ -223,18 +223,26 @@ pub(crate) fn past(kind: Kind, tokens: &[Symbol]) -> Result<&[Symbol], Fault>
     }
 }
 
+/// The same tokens, with which a loop goes on. The borrow checker tells tokens that came out of a `Result` from
+/// those that a call gives, as it does not for what holds no reference, and wants the same in each turn of a loop.
+pub(crate) fn onward(tokens: Tokens<'_>) -> Tokens<'_>
+    ensures { result.now ≡ tokens.now }
+{
+    tokens
+}
+
 /// Whether a token of this kind comes next.
-pub(crate) fn starts(kind: Kind, tokens: &[Symbol]) -> bool
+pub(crate) fn starts(kind: Kind, tokens: Tokens<'_>) -> bool
     ensures { result ≡ starts (is_of kind) tokens.now }
 {
     match tokens {
-        [first, ..] => is_of(kind, *first),
+        [first, ..] => is_of(kind, first),
         [] => false,
     }
 }
 
 /// The identifier at the front, and the tokens after it.
-pub(crate) fn ident(tokens: &[Symbol]) -> Result<(Ident, &[Symbol]), Fault>
+pub(crate) fn ident(tokens: Tokens<'_>) -> Result<(Ident, Tokens<'_>), Fault>
     ensures { Exactly (λ x. (x.0, x.1.now)) result (ident_at tokens.now) }
 {
     match tokens {
@@ -247,14 +255,14 @@ pub(crate) fn ident(tokens: &[Symbol]) -> Result<(Ident, &[Symbol]), Fault>
 }
 
 /// The place of a token.
-fn symbol_start(symbol: Symbol) -> u32
-    ensures { result ≡ symbol_start symbol }
+fn symbol_start(symbol: &Symbol) -> u32
+    ensures { result ≡ symbol_start symbol.now }
 {
     match symbol {
         Symbol::Ident(name) => name.start,
-        Symbol::Text(text) => text.start,
+        Symbol::Text(text) => text.token().start,
         Symbol::Literal(token) => token.start,
-        Symbol::Operator(_, at) => at,
+        Symbol::Operator(_, at) => *at,
         Symbol::Semicolon(at)
         | Symbol::Comma(at)
         | Symbol::Dot(at)
@@ -280,22 +288,22 @@ fn symbol_start(symbol: Symbol) -> u32
         | Symbol::Ellipsis(at)
         | Symbol::Tilde(at)
         | Symbol::Bar(at)
-        | Symbol::Other(at) => at,
+        | Symbol::Other(at) => *at,
     }
 }
 
 /// The place of the first token.
-pub(crate) fn start(tokens: &[Symbol]) -> u32
+pub(crate) fn start(tokens: Tokens<'_>) -> u32
     ensures { result ≡ start_of tokens.now }
 {
     match tokens {
-        [first, ..] => symbol_start(*first),
+        [first, ..] => symbol_start(first),
         [] => 0,
     }
 }
 
 /// With the next token a path is too long.
-pub(crate) fn too_deep(tokens: &[Symbol]) -> Fault
+pub(crate) fn too_deep(tokens: Tokens<'_>) -> Fault
     ensures { result ≡ Deep (length tokens.now) (start_of tokens.now) }
 {
     Fault::Deep(tokens.len(), start(tokens))
@@ -304,8 +312,8 @@ pub(crate) fn too_deep(tokens: &[Symbol]) -> Fault
 /// The same answer, where a path that is too long is told at this place.
 pub(crate) fn told_at<T: Drop>(
     at: u32,
-    answer: Result<(T, &[Symbol]), Stop>,
-) -> Result<(T, &[Symbol]), Stop>
+    answer: Result<(T, Tokens<'_>), Stop>,
+) -> Result<(T, Tokens<'_>), Stop>
     ensures { (read : Reply T) → Gives (λ x. (x.0, x.1.now)) answer.entry read → Gives (λ x. (x.0, x.1.now)) result (told_at at read) }
 {
     match answer {

@@ -4,7 +4,7 @@ ghost use Rattle.go_syntax.specs.Skipped.{opened, closed, same, stands_outside, 
 
 use crate::faults::{Fault, Stop};
 use crate::reading::{Kind, starts};
-use crate::symbols::Symbol;
+use crate::symbols::{Symbol, Tokens};
 use sqlite_items::Items;
 use std::alloc::{AllocError, Global};
 
@@ -28,8 +28,8 @@ pub(crate) enum Step {
 }
 
 /// The kind of bracket that a token opens.
-fn opened(symbol: Symbol) -> Option<Bracket>
-    ensures { result ≡ opened symbol }
+fn opened(symbol: &Symbol) -> Option<Bracket>
+    ensures { result ≡ opened symbol.now }
 {
     match symbol {
         Symbol::OpenParen(_) => Some(Bracket::Round),
@@ -40,8 +40,8 @@ fn opened(symbol: Symbol) -> Option<Bracket>
 }
 
 /// The kind of bracket that a token closes.
-fn closed(symbol: Symbol) -> Option<Bracket>
-    ensures { result ≡ closed symbol }
+fn closed(symbol: &Symbol) -> Option<Bracket>
+    ensures { result ≡ closed symbol.now }
 {
     match symbol {
         Symbol::CloseParen(_) => Some(Bracket::Round),
@@ -64,15 +64,15 @@ fn same(opening: Bracket, closing: Bracket) -> bool
 }
 
 /// Whether a token that is no bracket may stand outside all brackets.
-fn stands_outside(line: bool, symbol: Symbol) -> bool
-    ensures { result ≡ stands_outside line symbol }
+fn stands_outside(line: bool, symbol: &Symbol) -> bool
+    ensures { result ≡ stands_outside line symbol.now }
 {
     !line || !matches!(symbol, Symbol::Semicolon(_))
 }
 
 /// What a token does, and the brackets that are open after it, the innermost last.
-fn take(line: bool, unclosed: &mut Items<Bracket>, symbol: Symbol) -> Result<Step, AllocError>
-    ensures { IfOk result (λ s. Steps line (reverse unclosed.old) symbol s (reverse unclosed.new)) }
+fn take(line: bool, unclosed: &mut Items<Bracket>, symbol: &Symbol) -> Result<Step, AllocError>
+    ensures { IfOk result (λ s. Steps line (reverse unclosed.old) symbol.now s (reverse unclosed.new)) }
 {
     if let Some(bracket) = opened(symbol) {
         unclosed.push(bracket)?;
@@ -98,7 +98,7 @@ fn take(line: bool, unclosed: &mut Items<Bracket>, symbol: Symbol) -> Result<Ste
 }
 
 /// The tokens after a text in which brackets match. It ends before a bracket that closes none of them and, where it is one `line` of code, before a semicolon outside all of them.
-pub(crate) fn skipped(alloc: Global, line: bool, tokens: &[Symbol]) -> Result<&[Symbol], Stop>
+pub(crate) fn skipped(alloc: Global, line: bool, tokens: Tokens<'_>) -> Result<Tokens<'_>, Stop>
     ensures { Gives (λ x. (tt, x.now)) result (skip line [] tokens.now) }
 {
     let mut unclosed = Items::new(alloc);
@@ -110,7 +110,7 @@ pub(crate) fn skipped(alloc: Global, line: bool, tokens: &[Symbol]) -> Result<&[
             }
             return Err(Stop::At(Fault::Unexpected(0)));
         };
-        match take(line, &mut unclosed, *first)? {
+        match take(line, &mut unclosed, first)? {
             Step::Goes => rest = after,
             Step::Ends => return Ok(rest),
             Step::Clashes => return Err(Stop::At(Fault::Unexpected(rest.len()))),

@@ -1,13 +1,13 @@
 ghost use Rattle.std.specs.Prelude.{◌≡◌, ◌+◌, ◌-◌, IfOk, slice_get};
-ghost use Rattle.go_syntax.specs.Source.{keyword_symbol, single_operator, pair_operator, operator_symbol, single_symbol, pair_symbol, triple_symbol, mark_symbol, symbol_of, symbols_of};
+ghost use Rattle.go_syntax.specs.Source.{text_of, keyword_symbol, single_operator, pair_operator, operator_symbol, single_symbol, pair_symbol, triple_symbol, mark_symbol, symbol_of, symbols_of};
 
-use crate::symbols::{Ident, Operator, Span, Symbol};
+use crate::symbols::{Ident, Operator, Quoted, Symbol};
 use code_tables::Keyword;
 use go_lexer::{Token, TokenKind};
 use std::alloc::{AllocError, Global};
 
 /// What the grammar sees of a keyword.
-fn keyword_symbol(keyword: Keyword, at: u32) -> Symbol
+fn keyword_symbol(keyword: Keyword, at: u32) -> Symbol<'static>
     ensures { result ≡ keyword_symbol keyword at }
 {
     match keyword {
@@ -80,7 +80,7 @@ fn pair_operator(first: u8, second: u8) -> Option<Operator>
 }
 
 /// What the grammar sees of an operator, or of a token that is none.
-fn operator_symbol(operator: Option<Operator>, at: u32) -> Symbol
+fn operator_symbol(operator: Option<Operator>, at: u32) -> Symbol<'static>
     ensures { result ≡ operator_symbol operator at }
 {
     match operator {
@@ -90,7 +90,7 @@ fn operator_symbol(operator: Option<Operator>, at: u32) -> Symbol
 }
 
 /// What the grammar sees of an operator or punctuation of one byte.
-fn single_symbol(byte: u8, at: u32) -> Symbol
+fn single_symbol(byte: u8, at: u32) -> Symbol<'static>
     ensures { result ≡ single_symbol byte at }
 {
     if byte == b';' {
@@ -125,7 +125,7 @@ fn single_symbol(byte: u8, at: u32) -> Symbol
 }
 
 /// What the grammar sees of an operator of two bytes.
-fn pair_symbol(first: u8, second: Option<u8>, at: u32) -> Symbol
+fn pair_symbol(first: u8, second: Option<u8>, at: u32) -> Symbol<'static>
     ensures { result ≡ pair_symbol first second at }
 {
     match second {
@@ -141,7 +141,7 @@ fn pair_symbol(first: u8, second: Option<u8>, at: u32) -> Symbol
 }
 
 /// What the grammar sees of an operator of three bytes: only the dots are one that begins with a dot.
-fn triple_symbol(first: u8, at: u32) -> Symbol
+fn triple_symbol(first: u8, at: u32) -> Symbol<'static>
     ensures { result ≡ triple_symbol first at }
 {
     if first == b'.' {
@@ -152,7 +152,7 @@ fn triple_symbol(first: u8, at: u32) -> Symbol
 }
 
 /// What the grammar sees of an operator or punctuation of this length.
-fn mark_symbol(len: u32, first: Option<u8>, second: Option<u8>, at: u32) -> Symbol
+fn mark_symbol(len: u32, first: Option<u8>, second: Option<u8>, at: u32) -> Symbol<'static>
     ensures { result ≡ mark_symbol len first second at }
 {
     match first {
@@ -177,7 +177,7 @@ fn byte_at(src: &[u8], at: usize) -> Option<u8>
 }
 
 /// What the grammar sees of the operator or punctuation at a span.
-fn mark_at(src: &[u8], start: u32, end: u32) -> Symbol
+fn mark_at(src: &[u8], start: u32, end: u32) -> Symbol<'static>
     ensures { result ≡ mark_symbol (end - start) (slice_get src.now start) (slice_get src.now (start + 1)) start }
 {
     let len = end.saturating_sub(start);
@@ -186,15 +186,25 @@ fn mark_at(src: &[u8], start: u32, end: u32) -> Symbol
     mark_symbol(len, first, second, start)
 }
 
+/// The bytes between two places, or none where these are no places.
+fn text_of(src: &[u8], start: u32, end: u32) -> &[u8]
+    ensures { result.now ≡ text_of src.now start end }
+{
+    match src.get(start as usize..end as usize) {
+        Some(text) => text,
+        None => &[],
+    }
+}
+
 /// What the grammar sees of a token.
-fn symbol_of(src: &[u8], token: Token) -> Symbol
+fn symbol_of(src: &[u8], token: Token) -> Symbol<'_>
     ensures { result ≡ symbol_of src.now token }
 {
     let Token { kind, start, end } = token;
     match kind {
         TokenKind::Ident => Symbol::Ident(Ident { start, end }),
         TokenKind::Word(keyword) => keyword_symbol(keyword, start),
-        TokenKind::Text => Symbol::Text(Span { start, end }),
+        TokenKind::Text => Symbol::Text(Quoted::new(token, text_of(src, start, end))),
         TokenKind::Inserted => Symbol::Semicolon(start),
         TokenKind::Mark => mark_at(src, start, end),
         TokenKind::Whole | TokenKind::Floating | TokenKind::Imaginary | TokenKind::Rune => {
@@ -204,15 +214,16 @@ fn symbol_of(src: &[u8], token: Token) -> Symbol
 }
 
 /// What the grammar sees of the tokens.
-pub(crate) fn symbols(
+pub(crate) fn symbols<'s>(
     alloc: Global,
-    src: &[u8],
+    src: &'s [u8],
     tokens: &[Token],
-) -> Result<Vec<Symbol>, AllocError>
+) -> Result<Vec<Symbol<'s>>, AllocError>
     ensures { IfOk result (λ v. v.items ≡ symbols_of src.now tokens.now) }
 {
-    tokens
-        .iter()
-        .map(|token| symbol_of(src, *token))
-        .collect(alloc)
+    let mut symbols = Vec::with_capacity(alloc, tokens.len())?;
+    for token in tokens {
+        symbols.push(symbol_of(src, *token))?;
+    }
+    Ok(symbols)
 }

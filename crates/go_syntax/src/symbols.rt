@@ -1,4 +1,7 @@
+ghost use Rattle.std.specs.Prelude.{◌≡◌};
+
 use go_lexer::Token;
+use std::marker::Model;
 
 /// An identifier: the span of its text in the source.
 #[derive(Clone, Copy, Debug, PartialEq, Eq)]
@@ -7,11 +10,43 @@ pub struct Ident {
     pub end: u32,
 }
 
-/// A string literal with its quotes: the span of its text in the source.
-#[derive(Clone, Copy, Debug, PartialEq, Eq)]
-pub struct Span {
-    pub start: u32,
-    pub end: u32,
+/// A string literal: its token, and its text in the source with the quotes. Its value is the two.
+#[derive(Debug, Drop)]
+pub struct Quoted<'s> {
+    token: Token,
+    text: &'s [u8],
+}
+
+impl<'s> Model for Quoted<'s> {
+    ghost use Rattle.std.specs.Prelude.{List, ℕ};
+    ghost use Rattle.go_lexer.specs.declared.token_kinds.Token.{Token};
+
+    ghost Value = { Token × List ℕ };
+
+    ghost view = { λ q. (q.token, q.text.now) };
+}
+
+impl<'s> Quoted<'s> {
+    /// A token with its text.
+    pub fn new(token: Token, text: &'s [u8]) -> Quoted<'s>
+        ensures { result ≡ (token, text.now) }
+    {
+        Quoted { token, text }
+    }
+
+    /// The token.
+    pub fn token(&self) -> Token
+        ensures { result ≡ self.now.0 }
+    {
+        self.token
+    }
+
+    /// The text, with its quotes.
+    pub fn text(&self) -> &'s [u8]
+        ensures { result.now ≡ self.now.1 }
+    {
+        self.text
+    }
 }
 
 /// An operator of an expression. Some of them stand before one operand and between two.
@@ -41,10 +76,10 @@ pub enum Operator {
 }
 
 /// What the grammar sees of a token, with the place of its first byte.
-#[derive(Clone, Copy, Debug, PartialEq, Eq)]
-pub enum Symbol {
+#[derive(Debug, Drop)]
+pub enum Symbol<'s> {
     Ident(Ident),
-    Text(Span),
+    Text(Quoted<'s>),
     /// A literal that is no string.
     Literal(Token),
     /// A semicolon, written or inserted.
@@ -79,3 +114,6 @@ pub enum Symbol {
     /// A token that stands in no declaration of this grammar.
     Other(u32),
 }
+
+/// Tokens that are left.
+pub(crate) type Tokens<'s> = &'s [Symbol<'s>];

@@ -179,7 +179,7 @@ fn a_tree_has_its_places(rt: HostRuntime) -> Result<(), Fail> {
         "Pointer { ty: Boxed { inner: Name { name: NameExpr { package: Some(Ident { start: 33, end: 34 }), name: Ident { start: 35, end: 36 }, at: 33 }, args: Items { items: [] }, at: 33 } }, at: 32 }";
     let names = "Items { items: [Ident { start: 27, end: 28 }, Ident { start: 30, end: 31 }] }";
     let fields = format!(in rt.alloc();
-        "Items {{ items: [FieldExpr {{ names: {names}, ty: {ty}, tag: Some(Span {{ start: 37, end: 40 }}), at: 27 }}] }}"
+        "Items {{ items: [FieldExpr {{ names: {names}, ty: {ty}, tag: Bytes {{ items: [116] }}, at: 27 }}] }}"
     )?;
     let tops = format!(in rt.alloc();
         "[Defined(TypeSpec {{ name: Ident {{ start: 16, end: 17 }}, tparams: Items {{ items: [] }}, ty: Struct {{ fields: {fields}, at: 18 }} }})]"

@@ -1,4 +1,5 @@
-use crate::symbols::{Ident, Operator, Span};
+use crate::symbols::{Ident, Operator};
+use code_tables::Bytes;
 use go_lexer::Token;
 use sqlite_items::{Boxed, Items};
 
@@ -43,13 +44,14 @@ pub enum Expr {
     },
 }
 
-/// Fields of a struct that share a type, or an embedded field, which has no names.
+/// Fields of a struct that share a type, or an embedded field, which has no names. The tag is the value of its
+/// literal, and empty where none is written.
 #[cycle(syntax)]
 #[derive(Debug, Drop)]
 pub struct FieldExpr {
     pub names: Items<Ident>,
     pub ty: TypeExpr,
-    pub tag: Option<Span>,
+    pub tag: Bytes,
     pub at: u32,
 }
 
@@ -147,11 +149,11 @@ pub enum TypeExpr {
     },
 }
 
-/// An import. Its path begins at `at`.
-#[derive(Clone, Copy, Debug, PartialEq, Eq)]
+/// An import. The path is the value of its literal, which begins at `at`.
+#[derive(Debug, Drop)]
 pub struct Import {
     pub name: Option<Ident>,
-    pub path: Span,
+    pub path: Bytes,
     pub at: u32,
 }
 

@@ -9,14 +9,14 @@ use crate::faults::{Fault, Stop};
 use crate::instances::{begun_type, named_type};
 use crate::names::{more_names, tag};
 use crate::params::signature;
-use crate::reading::{Kind, past, single, start, starts, told_at, too_deep};
-use crate::symbols::{Ident, Symbol};
+use crate::reading::{Kind, onward, past, single, start, starts, told_at, too_deep};
+use crate::symbols::{Ident, Symbol, Tokens};
 use crate::tree::{FieldExpr, TypeExpr};
 use sqlite_items::{Boxed, Items};
 use std::alloc::Global;
 
 /// Why no type is read where no node is left.
-fn no_type(tokens: &[Symbol]) -> Fault
+fn no_type(tokens: Tokens<'_>) -> Fault
     ensures { no_type tokens.now ≡ Err result }
 {
     if starts(Kind::TypeStart, tokens) {
@@ -31,16 +31,16 @@ fn no_type(tokens: &[Symbol]) -> Fault
 fn embedded_name(
     alloc: Global,
     first: Ident,
-    tokens: &[Symbol],
+    tokens: Tokens<'_>,
     left: usize,
-) -> Result<((FieldExpr, usize), &[Symbol]), Stop>
+) -> Result<((FieldExpr, usize), Tokens<'_>), Stop>
     ensures { Gives (λ x. (x.0, x.1.now)) result (lone_by left (type_at left) first tokens.now) }
 {
     if left == 0 {
         return Err(Stop::At(too_deep(tokens)));
     }
     let ((ty, fit), rest) = begun_type(alloc, first, tokens, left - 1)?;
-    let (tag, rest) = tag(rest);
+    let (tag, rest) = tag(alloc, rest)?;
     let field = FieldExpr {
         names: Items::new(alloc),
         ty,
@@ -55,9 +55,9 @@ fn embedded_name(
 fn base_type(
     alloc: Global,
     at: u32,
-    tokens: &[Symbol],
+    tokens: Tokens<'_>,
     left: usize,
-) -> Result<((TypeExpr, usize), &[Symbol]), Stop>
+) -> Result<((TypeExpr, usize), Tokens<'_>), Stop>
     ensures { Gives (λ x. (x.0, x.1.now)) result (told_at at (type_at left tokens.now)) }
 {
     told_at(at, type_expr(alloc, tokens, left))
@@ -68,9 +68,9 @@ fn base_type(
 fn embedded_pointer(
     alloc: Global,
     at: u32,
-    tokens: &[Symbol],
+    tokens: Tokens<'_>,
     left: usize,
-) -> Result<((FieldExpr, usize), &[Symbol]), Stop>
+) -> Result<((FieldExpr, usize), Tokens<'_>), Stop>
     requires { 0 < left }
     ensures { Gives (λ x. (x.0, x.1.now)) result (star_at left (type_at left) at tokens.now) }
 {
@@ -78,7 +78,7 @@ fn embedded_pointer(
         return Err(Stop::At(Fault::Unexpected(tokens.len())));
     }
     let ((base, fit), rest) = base_type(alloc, at, tokens, left - 1)?;
-    let (tag, rest) = tag(rest);
+    let (tag, rest) = tag(alloc, rest)?;
     let ty = TypeExpr::Pointer {
         ty: Boxed::new(alloc, base)?,
         at,
@@ -98,13 +98,13 @@ fn shared_field(
     alloc: Global,
     names: Items<Ident>,
     at: u32,
-    tokens: &[Symbol],
+    tokens: Tokens<'_>,
     left: usize,
-) -> Result<((FieldExpr, usize), &[Symbol]), Stop>
+) -> Result<((FieldExpr, usize), Tokens<'_>), Stop>
     ensures { Gives (λ x. (x.0, x.1.now)) result (shared_by (type_at left) names at tokens.now) }
 {
     let ((ty, fit), rest) = type_expr(alloc, tokens, left)?;
-    let (tag, rest) = tag(rest);
+    let (tag, rest) = tag(alloc, rest)?;
     let field = FieldExpr { names, ty, tag, at };
     Ok(((field, fit), rest))
 }
@@ -114,9 +114,9 @@ fn shared_field(
 fn only_field(
     alloc: Global,
     name: Ident,
-    tokens: &[Symbol],
+    tokens: Tokens<'_>,
     left: usize,
-) -> Result<((FieldExpr, usize), &[Symbol]), Stop>
+) -> Result<((FieldExpr, usize), Tokens<'_>), Stop>
     ensures { Gives (λ x. (x.0, x.1.now)) result (only_by (type_at left) name tokens.now) }
 {
     let names = single(alloc, name)?;
@@ -128,9 +128,9 @@ fn only_field(
 fn array_or_instance(
     alloc: Global,
     first: Ident,
-    tokens: &[Symbol],
+    tokens: Tokens<'_>,
     left: usize,
-) -> Result<((FieldExpr, usize), &[Symbol]), Stop>
+) -> Result<((FieldExpr, usize), Tokens<'_>), Stop>
     ensures { Gives (λ x. (x.0, x.1.now)) result (array_or_instance left (type_at left) first tokens.now) }
 {
     match only_field(alloc, first, tokens, left) {
@@ -144,9 +144,9 @@ fn array_or_instance(
 fn first_field(
     alloc: Global,
     first: Ident,
-    tokens: &[Symbol],
+    tokens: Tokens<'_>,
     left: usize,
-) -> Result<((FieldExpr, usize), &[Symbol]), Stop>
+) -> Result<((FieldExpr, usize), Tokens<'_>), Stop>
     ensures { Gives (λ x. (x.0, x.1.now)) result (first_by left (type_at left) first tokens.now) }
 {
     if let Ok(rest) = past(Kind::Comma, tokens) {
@@ -166,9 +166,9 @@ fn first_field(
 #[cycle(types)]
 fn one_field(
     alloc: Global,
-    tokens: &[Symbol],
+    tokens: Tokens<'_>,
     left: usize,
-) -> Result<((FieldExpr, usize), &[Symbol]), Stop>
+) -> Result<((FieldExpr, usize), Tokens<'_>), Stop>
     ensures { Gives (λ x. (x.0, x.1.now)) result (field_by left (type_at left) tokens.now) }
 {
     let [first, rest @ ..] = tokens else {
@@ -190,9 +190,9 @@ fn one_field(
 #[cycle(types)]
 fn fields(
     alloc: Global,
-    tokens: &[Symbol],
+    tokens: Tokens<'_>,
     left: usize,
-) -> Result<((Items<FieldExpr>, usize), &[Symbol]), Stop>
+) -> Result<((Items<FieldExpr>, usize), Tokens<'_>), Stop>
     ensures { Gives (λ x. (x.0, x.1.now)) result (fields_at left (type_at left) tokens.now) }
 {
     let mut found = Items::new(alloc);
@@ -208,7 +208,8 @@ fn fields(
         if let Ok(after) = past(Kind::CloseBrace, behind) {
             return Ok(((found, fit), after));
         }
-        rest = past(Kind::Semicolon, behind)?;
+        let next = past(Kind::Semicolon, behind)?;
+        rest = onward(next);
     }
 }
 
@@ -217,9 +218,9 @@ fn fields(
 fn struct_type(
     alloc: Global,
     at: u32,
-    tokens: &[Symbol],
+    tokens: Tokens<'_>,
     left: usize,
-) -> Result<((TypeExpr, usize), &[Symbol]), Stop>
+) -> Result<((TypeExpr, usize), Tokens<'_>), Stop>
     ensures { Gives (λ x. (x.0, x.1.now)) result (struct_by left (type_at left) at tokens.now) }
 {
     let rest = past(Kind::OpenBrace, tokens)?;
@@ -232,9 +233,9 @@ fn struct_type(
 fn paren_type(
     alloc: Global,
     at: u32,
-    tokens: &[Symbol],
+    tokens: Tokens<'_>,
     left: usize,
-) -> Result<((TypeExpr, usize), &[Symbol]), Stop>
+) -> Result<((TypeExpr, usize), Tokens<'_>), Stop>
     ensures { Gives (λ x. (x.0, x.1.now)) result (paren_by (type_at left) at tokens.now) }
 {
     let ((ty, fit), rest) = type_expr(alloc, tokens, left)?;
@@ -248,9 +249,9 @@ fn paren_type(
 fn bracketed(
     alloc: Global,
     at: u32,
-    tokens: &[Symbol],
+    tokens: Tokens<'_>,
     left: usize,
-) -> Result<((TypeExpr, usize), &[Symbol]), Stop>
+) -> Result<((TypeExpr, usize), Tokens<'_>), Stop>
     ensures { Gives (λ x. (x.0, x.1.now)) result (bracket_by left (type_at left) at tokens.now) }
 {
     if let Ok(rest) = past(Kind::CloseBracket, tokens) {
@@ -271,9 +272,9 @@ fn bracketed(
 fn map_type(
     alloc: Global,
     at: u32,
-    tokens: &[Symbol],
+    tokens: Tokens<'_>,
     left: usize,
-) -> Result<((TypeExpr, usize), &[Symbol]), Stop>
+) -> Result<((TypeExpr, usize), Tokens<'_>), Stop>
     ensures { Gives (λ x. (x.0, x.1.now)) result (map_by (type_at left) at tokens.now) }
 {
     let rest = past(Kind::OpenBracket, tokens)?;
@@ -290,9 +291,9 @@ fn map_type(
 fn chan_type(
     alloc: Global,
     at: u32,
-    tokens: &[Symbol],
+    tokens: Tokens<'_>,
     left: usize,
-) -> Result<((TypeExpr, usize), &[Symbol]), Stop>
+) -> Result<((TypeExpr, usize), Tokens<'_>), Stop>
     ensures { Gives (λ x. (x.0, x.1.now)) result (chan_by (type_at left) at tokens.now) }
 {
     if let Ok(rest) = past(Kind::Arrow, tokens) {
@@ -324,9 +325,9 @@ fn chan_type(
 fn receive_type(
     alloc: Global,
     at: u32,
-    tokens: &[Symbol],
+    tokens: Tokens<'_>,
     left: usize,
-) -> Result<((TypeExpr, usize), &[Symbol]), Stop>
+) -> Result<((TypeExpr, usize), Tokens<'_>), Stop>
     ensures { Gives (λ x. (x.0, x.1.now)) result (receive_by (type_at left) at tokens.now) }
 {
     let rest = past(Kind::Chan, tokens)?;
@@ -347,9 +348,9 @@ fn receive_type(
 fn func_type(
     alloc: Global,
     at: u32,
-    tokens: &[Symbol],
+    tokens: Tokens<'_>,
     left: usize,
-) -> Result<((TypeExpr, usize), &[Symbol]), Stop>
+) -> Result<((TypeExpr, usize), Tokens<'_>), Stop>
     ensures { Gives (λ x. (x.0, x.1.now)) result (func_by left (type_at left) at tokens.now) }
 {
     let ((sig, fit), rest) = signature(alloc, tokens, left)?;
@@ -360,9 +361,9 @@ fn func_type(
 #[cycle(types)]
 fn type_inside(
     alloc: Global,
-    tokens: &[Symbol],
+    tokens: Tokens<'_>,
     left: usize,
-) -> Result<((TypeExpr, usize), &[Symbol]), Stop>
+) -> Result<((TypeExpr, usize), Tokens<'_>), Stop>
     ensures { Gives (λ x. (x.0, x.1.now)) result (type_by left (type_at left) (lower_at left) tokens.now) }
 {
     let [first, rest @ ..] = tokens else {
@@ -392,9 +393,9 @@ fn type_inside(
 #[cycle(types)]
 pub(crate) fn type_expr(
     alloc: Global,
-    tokens: &[Symbol],
+    tokens: Tokens<'_>,
     left: usize,
-) -> Result<((TypeExpr, usize), &[Symbol]), Stop>
+) -> Result<((TypeExpr, usize), Tokens<'_>), Stop>
     ensures { Gives (λ x. (x.0, x.1.now)) result (type_at left tokens.now) }
 {
     if left == 0 {
@@ -407,9 +408,9 @@ pub(crate) fn type_expr(
 #[cycle(types)]
 pub(crate) fn lower_type(
     alloc: Global,
-    tokens: &[Symbol],
+    tokens: Tokens<'_>,
     left: usize,
-) -> Result<((TypeExpr, usize), &[Symbol]), Stop>
+) -> Result<((TypeExpr, usize), Tokens<'_>), Stop>
     ensures { Gives (λ x. (x.0, x.1.now)) result (lower_at left tokens.now) }
 {
     if left == 0 {

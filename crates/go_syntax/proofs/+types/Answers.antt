@@ -32,24 +32,24 @@ types::fields-returns-in-Ok-past t c =
     let n = c.args.left in
     rw (c.in_ok-push.ensures.ok, c.min-fit.ensures) (fit_last n is_semicolon is_close_brace (λ (x : Fit FieldExpr). false) (λ x. x.0) (λ x. x.1) (field_by n (type_at n)) (field_eats n) c.loop-after.found c.loop-after.fit c.loop-after.rest.now c.in_default.field-0 (c.in_ok-field.field, c.in_ok-field.inside) c.in_ok-field.behind.now c.in-Ok-past.after.now (fields_at n (type_at n) c.args.tokens.now) c.loop-after.invariant.small c.in_default.ensures c.in_ok-field.ensures c.in-Ok-past.ensures c.loop-after.invariant.same)
 
-pub types::fields-returns-in_err-rest : goal.types::fields-returns-in_err-rest
-types::fields-returns-in_err-rest t c =
+pub types::fields-returns-in_err-next : goal.types::fields-returns-in_err-next
+types::fields-returns-in_err-next t c =
     let n = c.args.left in
-    let p = err_from_is_err_and c.from_residual-in_err-rest.result c.from_residual-in_err-rest.ensures.1 in
-    rw (p.1, p.2) (fit_stuck n is_semicolon is_close_brace (λ (x : Fit FieldExpr). false) (λ x. x.0) (λ x. x.1) (field_by n (type_at n)) (field_eats n) c.loop-after.found c.loop-after.fit c.loop-after.rest.now c.in_default.field-0 (c.in_ok-field.field, c.in_ok-field.inside) c.in_ok-field.behind.now c.in_default-past.field-0 c.in_err-rest.field-0.0 (fields_at n (type_at n) c.args.tokens.now) c.in_default.ensures c.in_ok-field.ensures c.in_default-past.ensures c.in_err-rest.ensures c.loop-after.invariant.same)
+    let p = err_from_is_err_and c.from_residual-in_err-next.result c.from_residual-in_err-next.ensures.1 in
+    rw (p.1, p.2) (fit_stuck n is_semicolon is_close_brace (λ (x : Fit FieldExpr). false) (λ x. x.0) (λ x. x.1) (field_by n (type_at n)) (field_eats n) c.loop-after.found c.loop-after.fit c.loop-after.rest.now c.in_default.field-0 (c.in_ok-field.field, c.in_ok-field.inside) c.in_ok-field.behind.now c.in_default-past.field-0 c.in_err-next.field-0.0 (fields_at n (type_at n) c.args.tokens.now) c.in_default.ensures c.in_ok-field.ensures c.in_default-past.ensures c.in_err-next.ensures c.loop-after.invariant.same)
 
 pub types::fields-loop-after-smaller : goal.types::fields-loop-after-smaller
 types::fields-loop-after-smaller t c =
     let n = c.args.left in
-    series_smaller is_semicolon (field_by n (type_at n)) (field_eats n) c.loop-after.rest.now (c.in_ok-field.field, c.in_ok-field.inside) c.in_ok-field.behind.now c.in_ok-rest.rest.now c.in_ok-field.ensures c.in_ok-rest.ensures
+    rw c.onward-rest.ensures (series_smaller is_semicolon (field_by n (type_at n)) (field_eats n) c.loop-after.rest.now (c.in_ok-field.field, c.in_ok-field.inside) c.in_ok-field.behind.now c.in_ok-next.next.now c.in_ok-field.ensures c.in_ok-next.ensures)
 
 pub types::fields-loop-after-preserved : goal.types::fields-loop-after-preserved
 types::fields-loop-after-preserved t c =
     let n = c.args.left in
     let less : min c.loop-after.fit c.in_ok-field.inside ≤ n = omega (arith, c.loop-after.invariant.small) in
-    rw (c.in_ok-push.ensures.ok, c.min-fit.ensures) (record {
+    rw (c.onward-rest.ensures, c.in_ok-push.ensures.ok, c.min-fit.ensures) (record {
       small = less;
-      same = fit_goes n is_semicolon is_close_brace (λ (x : Fit FieldExpr). false) (λ x. x.0) (λ x. x.1) (field_by n (type_at n)) (field_eats n) c.loop-after.found c.loop-after.fit c.loop-after.rest.now c.in_default.field-0 (c.in_ok-field.field, c.in_ok-field.inside) c.in_ok-field.behind.now c.in_ok-rest.rest.now c.in_default-past.field-0 (fields_at n (type_at n) c.args.tokens.now) refl c.in_default.ensures c.in_ok-field.ensures c.in_default-past.ensures c.in_ok-rest.ensures c.loop-after.invariant.same;
+      same = fit_goes n is_semicolon is_close_brace (λ (x : Fit FieldExpr). false) (λ x. x.0) (λ x. x.1) (field_by n (type_at n)) (field_eats n) c.loop-after.found c.loop-after.fit c.loop-after.rest.now c.in_default.field-0 (c.in_ok-field.field, c.in_ok-field.inside) c.in_ok-field.behind.now c.in_ok-next.next.now c.in_default-past.field-0 (fields_at n (type_at n) c.args.tokens.now) refl c.in_default.ensures c.in_ok-field.ensures c.in_default-past.ensures c.in_ok-next.ensures c.loop-after.invariant.same;
     })
 
 pub elements::elems-returns-in-Ok : goal.elements::elems-returns-in-Ok
@@ -68,24 +68,24 @@ elements::elems-returns-in-Ok-past t c =
     let n = c.args.left in
     rw (c.in_ok-push.ensures.ok, c.min-fit.ensures) (fit_last n is_semicolon is_close_brace (λ (x : Fit ElemExpr). false) (λ x. x.0) (λ x. x.1) (elem_at n (type_at n) (lower_at n)) (elem_eats n) c.loop-after.found c.loop-after.fit c.loop-after.rest.now c.in_default.field-0 (c.in_ok-elem.elem, c.in_ok-elem.inside) c.in_ok-elem.behind.now c.in-Ok-past.after.now (elems_at n (type_at n) (lower_at n) c.args.tokens.now) c.loop-after.invariant.small c.in_default.ensures c.in_ok-elem.ensures c.in-Ok-past.ensures c.loop-after.invariant.same)
 
-pub elements::elems-returns-in_err-rest : goal.elements::elems-returns-in_err-rest
-elements::elems-returns-in_err-rest t c =
+pub elements::elems-returns-in_err-next : goal.elements::elems-returns-in_err-next
+elements::elems-returns-in_err-next t c =
     let n = c.args.left in
-    let p = err_from_is_err_and c.from_residual-in_err-rest.result c.from_residual-in_err-rest.ensures.1 in
-    rw (p.1, p.2) (fit_stuck n is_semicolon is_close_brace (λ (x : Fit ElemExpr). false) (λ x. x.0) (λ x. x.1) (elem_at n (type_at n) (lower_at n)) (elem_eats n) c.loop-after.found c.loop-after.fit c.loop-after.rest.now c.in_default.field-0 (c.in_ok-elem.elem, c.in_ok-elem.inside) c.in_ok-elem.behind.now c.in_default-past.field-0 c.in_err-rest.field-0.0 (elems_at n (type_at n) (lower_at n) c.args.tokens.now) c.in_default.ensures c.in_ok-elem.ensures c.in_default-past.ensures c.in_err-rest.ensures c.loop-after.invariant.same)
+    let p = err_from_is_err_and c.from_residual-in_err-next.result c.from_residual-in_err-next.ensures.1 in
+    rw (p.1, p.2) (fit_stuck n is_semicolon is_close_brace (λ (x : Fit ElemExpr). false) (λ x. x.0) (λ x. x.1) (elem_at n (type_at n) (lower_at n)) (elem_eats n) c.loop-after.found c.loop-after.fit c.loop-after.rest.now c.in_default.field-0 (c.in_ok-elem.elem, c.in_ok-elem.inside) c.in_ok-elem.behind.now c.in_default-past.field-0 c.in_err-next.field-0.0 (elems_at n (type_at n) (lower_at n) c.args.tokens.now) c.in_default.ensures c.in_ok-elem.ensures c.in_default-past.ensures c.in_err-next.ensures c.loop-after.invariant.same)
 
 pub elements::elems-loop-after-smaller : goal.elements::elems-loop-after-smaller
 elements::elems-loop-after-smaller t c =
     let n = c.args.left in
-    series_smaller is_semicolon (elem_at n (type_at n) (lower_at n)) (elem_eats n) c.loop-after.rest.now (c.in_ok-elem.elem, c.in_ok-elem.inside) c.in_ok-elem.behind.now c.in_ok-rest.rest.now c.in_ok-elem.ensures c.in_ok-rest.ensures
+    rw c.onward-rest.ensures (series_smaller is_semicolon (elem_at n (type_at n) (lower_at n)) (elem_eats n) c.loop-after.rest.now (c.in_ok-elem.elem, c.in_ok-elem.inside) c.in_ok-elem.behind.now c.in_ok-next.next.now c.in_ok-elem.ensures c.in_ok-next.ensures)
 
 pub elements::elems-loop-after-preserved : goal.elements::elems-loop-after-preserved
 elements::elems-loop-after-preserved t c =
     let n = c.args.left in
     let less : min c.loop-after.fit c.in_ok-elem.inside ≤ n = omega (arith, c.loop-after.invariant.small) in
-    rw (c.in_ok-push.ensures.ok, c.min-fit.ensures) (record {
+    rw (c.onward-rest.ensures, c.in_ok-push.ensures.ok, c.min-fit.ensures) (record {
       small = less;
-      same = fit_goes n is_semicolon is_close_brace (λ (x : Fit ElemExpr). false) (λ x. x.0) (λ x. x.1) (elem_at n (type_at n) (lower_at n)) (elem_eats n) c.loop-after.found c.loop-after.fit c.loop-after.rest.now c.in_default.field-0 (c.in_ok-elem.elem, c.in_ok-elem.inside) c.in_ok-elem.behind.now c.in_ok-rest.rest.now c.in_default-past.field-0 (elems_at n (type_at n) (lower_at n) c.args.tokens.now) refl c.in_default.ensures c.in_ok-elem.ensures c.in_default-past.ensures c.in_ok-rest.ensures c.loop-after.invariant.same;
+      same = fit_goes n is_semicolon is_close_brace (λ (x : Fit ElemExpr). false) (λ x. x.0) (λ x. x.1) (elem_at n (type_at n) (lower_at n)) (elem_eats n) c.loop-after.found c.loop-after.fit c.loop-after.rest.now c.in_default.field-0 (c.in_ok-elem.elem, c.in_ok-elem.inside) c.in_ok-elem.behind.now c.in_ok-next.next.now c.in_default-past.field-0 (elems_at n (type_at n) (lower_at n) c.args.tokens.now) refl c.in_default.ensures c.in_ok-elem.ensures c.in_default-past.ensures c.in_ok-next.ensures c.loop-after.invariant.same;
     })
 
 pub params::param_row-returns-in-Ok : goal.params::param_row-returns-in-Ok
@@ -104,24 +104,24 @@ params::param_row-returns-in-Ok-past t c =
     let n = c.args.left in
     rw (c.in_ok-push.ensures.ok, c.min-fit.ensures) (fit_last n is_comma is_close_paren (λ (x : Param). x.last) (λ x. x.expr) (λ x. x.fit) (param_at c.args.named c.args.variadic (type_at n)) (param_eats c.args.named c.args.variadic n) c.loop-after.params c.loop-after.fit c.loop-after.rest.now c.in_default.field-0 c.in_ok-param.param c.in_ok-param.behind.now c.in-Ok-past.after.now (with_fit c.args.found (params_row c.args.named c.args.variadic n (type_at n) c.args.tokens.now)) c.loop-after.invariant.small c.in_default.ensures c.in_ok-param.ensures c.in-Ok-past.ensures c.loop-after.invariant.same)
 
-pub params::param_row-returns-in_err-rest : goal.params::param_row-returns-in_err-rest
-params::param_row-returns-in_err-rest t c =
+pub params::param_row-returns-in_err-next : goal.params::param_row-returns-in_err-next
+params::param_row-returns-in_err-next t c =
     let n = c.args.left in
-    let p = err_from_is_err_and c.from_residual-in_err-rest.result c.from_residual-in_err-rest.ensures.1 in
-    rw (p.1, p.2) (fit_stuck n is_comma is_close_paren (λ (x : Param). x.last) (λ x. x.expr) (λ x. x.fit) (param_at c.args.named c.args.variadic (type_at n)) (param_eats c.args.named c.args.variadic n) c.loop-after.params c.loop-after.fit c.loop-after.rest.now c.in_default.field-0 c.in_ok-param.param c.in_ok-param.behind.now c.in_default-past.field-0 c.in_err-rest.field-0.0 (with_fit c.args.found (params_row c.args.named c.args.variadic n (type_at n) c.args.tokens.now)) c.in_default.ensures c.in_ok-param.ensures c.in_default-past.ensures c.in_err-rest.ensures c.loop-after.invariant.same)
+    let p = err_from_is_err_and c.from_residual-in_err-next.result c.from_residual-in_err-next.ensures.1 in
+    rw (p.1, p.2) (fit_stuck n is_comma is_close_paren (λ (x : Param). x.last) (λ x. x.expr) (λ x. x.fit) (param_at c.args.named c.args.variadic (type_at n)) (param_eats c.args.named c.args.variadic n) c.loop-after.params c.loop-after.fit c.loop-after.rest.now c.in_default.field-0 c.in_ok-param.param c.in_ok-param.behind.now c.in_default-past.field-0 c.in_err-next.field-0.0 (with_fit c.args.found (params_row c.args.named c.args.variadic n (type_at n) c.args.tokens.now)) c.in_default.ensures c.in_ok-param.ensures c.in_default-past.ensures c.in_err-next.ensures c.loop-after.invariant.same)
 
 pub params::param_row-loop-after-smaller : goal.params::param_row-loop-after-smaller
 params::param_row-loop-after-smaller t c =
     let n = c.args.left in
-    series_smaller is_comma (param_at c.args.named c.args.variadic (type_at n)) (param_eats c.args.named c.args.variadic n) c.loop-after.rest.now c.in_ok-param.param c.in_ok-param.behind.now c.in_ok-rest.rest.now c.in_ok-param.ensures c.in_ok-rest.ensures
+    rw c.onward-rest.ensures (series_smaller is_comma (param_at c.args.named c.args.variadic (type_at n)) (param_eats c.args.named c.args.variadic n) c.loop-after.rest.now c.in_ok-param.param c.in_ok-param.behind.now c.in_ok-next.next.now c.in_ok-param.ensures c.in_ok-next.ensures)
 
 pub params::param_row-loop-after-preserved : goal.params::param_row-loop-after-preserved
 params::param_row-loop-after-preserved t c =
     let n = c.args.left in
     let less : min c.loop-after.fit c.in_ok-param.param.fit ≤ n = omega (arith, c.loop-after.invariant.small) in
-    rw (c.in_ok-push.ensures.ok, c.min-fit.ensures) (record {
+    rw (c.onward-rest.ensures, c.in_ok-push.ensures.ok, c.min-fit.ensures) (record {
       small = less;
-      same = fit_goes n is_comma is_close_paren (λ (x : Param). x.last) (λ x. x.expr) (λ x. x.fit) (param_at c.args.named c.args.variadic (type_at n)) (param_eats c.args.named c.args.variadic n) c.loop-after.params c.loop-after.fit c.loop-after.rest.now c.in_default.field-0 c.in_ok-param.param c.in_ok-param.behind.now c.in_ok-rest.rest.now c.in_default-past.field-0 (with_fit c.args.found (params_row c.args.named c.args.variadic n (type_at n) c.args.tokens.now)) c.if-last.false c.in_default.ensures c.in_ok-param.ensures c.in_default-past.ensures c.in_ok-rest.ensures c.loop-after.invariant.same;
+      same = fit_goes n is_comma is_close_paren (λ (x : Param). x.last) (λ x. x.expr) (λ x. x.fit) (param_at c.args.named c.args.variadic (type_at n)) (param_eats c.args.named c.args.variadic n) c.loop-after.params c.loop-after.fit c.loop-after.rest.now c.in_default.field-0 c.in_ok-param.param c.in_ok-param.behind.now c.in_ok-next.next.now c.in_default-past.field-0 (with_fit c.args.found (params_row c.args.named c.args.variadic n (type_at n) c.args.tokens.now)) c.if-last.false c.in_default.ensures c.in_ok-param.ensures c.in_default-past.ensures c.in_ok-next.ensures c.loop-after.invariant.same;
     })
 
 pub types::fields-loop-after-init : goal.types::fields-loop-after-init
@@ -140,12 +140,12 @@ pub params::param_row-returns-in_err-after : goal.params::param_row-returns-in_e
 params::param_row-returns-in_err-after t c =
     let n = c.args.left in
     let p = err_from_is_err_and c.from_residual-in_err-after.result c.from_residual-in_err-after.ensures.1 in
-    rw (p.1, p.2) (fit_refuses n is_comma is_close_paren (λ (x : Param). x.last) (λ x. x.expr) (λ x. x.fit) (param_at c.args.named c.args.variadic (type_at n)) (param_eats c.args.named c.args.variadic n) c.loop-after.params c.loop-after.fit c.loop-after.rest.now c.in_default.field-0 c.in_ok-param.param c.in_ok-param.behind.now c.in_ok-rest.rest.now c.in_default-past.field-0 c.in_err-after.field-0.0 (with_fit c.args.found (params_row c.args.named c.args.variadic n (type_at n) c.args.tokens.now)) c.if-last.true c.in_default.ensures c.in_ok-param.ensures c.in_default-past.ensures c.in_ok-rest.ensures c.in_err-after.ensures c.loop-after.invariant.same)
+    rw (p.1, p.2) (fit_refuses n is_comma is_close_paren (λ (x : Param). x.last) (λ x. x.expr) (λ x. x.fit) (param_at c.args.named c.args.variadic (type_at n)) (param_eats c.args.named c.args.variadic n) c.loop-after.params c.loop-after.fit c.loop-after.rest.now c.in_default.field-0 c.in_ok-param.param c.in_ok-param.behind.now c.in_ok-next.next.now c.in_default-past.field-0 c.in_err-after.field-0.0 (with_fit c.args.found (params_row c.args.named c.args.variadic n (type_at n) c.args.tokens.now)) c.if-last.true c.in_default.ensures c.in_ok-param.ensures c.in_default-past.ensures c.in_ok-next.ensures c.in_err-after.ensures c.loop-after.invariant.same)
 
 pub params::param_row-returns-then-last : goal.params::param_row-returns-then-last
 params::param_row-returns-then-last t c =
     let n = c.args.left in
-    rw (c.in_ok-push.ensures.ok, c.min-fit.ensures) (fit_ends n is_comma is_close_paren (λ (x : Param). x.last) (λ x. x.expr) (λ x. x.fit) (param_at c.args.named c.args.variadic (type_at n)) (param_eats c.args.named c.args.variadic n) c.loop-after.params c.loop-after.fit c.loop-after.rest.now c.in_default.field-0 c.in_ok-param.param c.in_ok-param.behind.now c.in_ok-rest.rest.now c.in_ok-after.after.now c.in_default-past.field-0 (with_fit c.args.found (params_row c.args.named c.args.variadic n (type_at n) c.args.tokens.now)) c.loop-after.invariant.small c.if-last.true c.in_default.ensures c.in_ok-param.ensures c.in_default-past.ensures c.in_ok-rest.ensures c.in_ok-after.ensures c.loop-after.invariant.same)
+    rw (c.in_ok-push.ensures.ok, c.min-fit.ensures) (fit_ends n is_comma is_close_paren (λ (x : Param). x.last) (λ x. x.expr) (λ x. x.fit) (param_at c.args.named c.args.variadic (type_at n)) (param_eats c.args.named c.args.variadic n) c.loop-after.params c.loop-after.fit c.loop-after.rest.now c.in_default.field-0 c.in_ok-param.param c.in_ok-param.behind.now c.in_ok-next.next.now c.in_ok-after.after.now c.in_default-past.field-0 (with_fit c.args.found (params_row c.args.named c.args.variadic n (type_at n) c.args.tokens.now)) c.loop-after.invariant.small c.if-last.true c.in_default.ensures c.in_ok-param.ensures c.in_default-past.ensures c.in_ok-next.ensures c.in_ok-after.ensures c.loop-after.invariant.same)
 
 pub params::params-returns-in_default-past : goal.params::params-returns-in_default-past
 params::params-returns-in_default-past t c =
@@ -155,7 +155,7 @@ params::params-returns-in_default-past t c =
 pub params::params-loop-name-preserved : goal.params::params-loop-name-preserved
 params::params-loop-name-preserved t c =
     let n = c.args.left in
-    rw c.in_ok-push.ensures.ok (sym (from_goes c.args.variadic n (type_at n) c.loop-name.names c.loop-name.rest.now c.in-Ok.name c.in-Ok.after.now c.in-Ok-past.next.now c.in-Ok.ensures c.in-Ok-past.ensures) ∙ c.loop-name.invariant)
+    rw (c.in_ok-push.ensures.ok, c.onward-rest.ensures) (sym (from_goes c.args.variadic n (type_at n) c.loop-name.names c.loop-name.rest.now c.in-Ok.name c.in-Ok.after.now c.in-Ok-past.next.now c.in-Ok.ensures c.in-Ok-past.ensures) ∙ c.loop-name.invariant)
 
 pub elements::more_terms-returns-in_err-term : goal.elements::more_terms-returns-in_err-term
 elements::more_terms-returns-in_err-term t c =
@@ -171,12 +171,12 @@ elements::more_terms-returns-in_default t c =
 pub elements::more_terms-loop-terms-smaller : goal.elements::more_terms-loop-terms-smaller
 elements::more_terms-loop-terms-smaller t c =
     let n = c.args.left in
-    series_smaller is_bar (term_at (lower_at n)) (term_eats n) c.loop-terms.rest.now (c.in_ok-term.term, c.in_ok-term.inside) c.in_ok-term.after.now c.in-Ok.next.now c.in_ok-term.ensures c.in-Ok.ensures
+    rw c.onward-rest.ensures (series_smaller is_bar (term_at (lower_at n)) (term_eats n) c.loop-terms.rest.now (c.in_ok-term.term, c.in_ok-term.inside) c.in_ok-term.after.now c.in-Ok.next.now c.in_ok-term.ensures c.in-Ok.ensures)
 
 pub elements::more_terms-loop-terms-preserved : goal.elements::more_terms-loop-terms-preserved
 elements::more_terms-loop-terms-preserved t c =
     let n = c.args.left in
-    rw (c.in_ok-push.ensures.ok, c.min-fit.ensures) (sym (terms_join c.loop-terms.terms c.loop-terms.fit c.args.at (c.in_ok-term.term, c.in_ok-term.inside) (terms_at (lower_at n) c.in-Ok.next.now)) ∙ chain_goes is_bar (λ (x : Fit TermExpr). (x.0 ∷ [], x.1)) (λ x xs. (x.0 ∷ xs.0, min x.1 xs.1)) (term_at (lower_at n)) (term_eats n) (λ xs. union_of (c.loop-terms.terms ++ xs.0) (min c.loop-terms.fit xs.1) c.args.at) c.loop-terms.rest.now (c.in_ok-term.term, c.in_ok-term.inside) c.in_ok-term.after.now c.in-Ok.next.now (more_terms (lower_at n) c.args.first c.args.at c.args.tokens.now) c.in_ok-term.ensures c.in-Ok.ensures c.loop-terms.invariant)
+    rw (c.onward-rest.ensures, c.in_ok-push.ensures.ok, c.min-fit.ensures) (sym (terms_join c.loop-terms.terms c.loop-terms.fit c.args.at (c.in_ok-term.term, c.in_ok-term.inside) (terms_at (lower_at n) c.in-Ok.next.now)) ∙ chain_goes is_bar (λ (x : Fit TermExpr). (x.0 ∷ [], x.1)) (λ x xs. (x.0 ∷ xs.0, min x.1 xs.1)) (term_at (lower_at n)) (term_eats n) (λ xs. union_of (c.loop-terms.terms ++ xs.0) (min c.loop-terms.fit xs.1) c.args.at) c.loop-terms.rest.now (c.in_ok-term.term, c.in_ok-term.inside) c.in_ok-term.after.now c.in-Ok.next.now (more_terms (lower_at n) c.args.first c.args.at c.args.tokens.now) c.in_ok-term.ensures c.in-Ok.ensures c.loop-terms.invariant)
 
 pub types::type_expr-returns-then-left-eq0 : goal.types::type_expr-returns-then-left-eq0
 types::type_expr-returns-then-left-eq0 t c =
@@ -216,24 +216,24 @@ instances::arg_row-returns-in-Ok-past t c =
     let n = c.args.left in
     rw (c.in_ok-push.ensures.ok, c.min-fit.ensures) (fit_last n is_comma is_close_bracket (λ (x : Fit TypeExpr). false) (λ x. x.0) (λ x. x.1) (type_at n) (type_eats n) c.loop-after.args c.loop-after.fit c.loop-after.rest.now c.in_default.field-0 (c.in_ok-arg.arg, c.in_ok-arg.inside) c.in_ok-arg.behind.now c.in-Ok-past.after.now (with_fit c.args.found (series (type_list n) (type_at n) c.args.tokens.now)) c.loop-after.invariant.small c.in_default.ensures c.in_ok-arg.ensures c.in-Ok-past.ensures c.loop-after.invariant.same)
 
-pub instances::arg_row-returns-in_err-rest : goal.instances::arg_row-returns-in_err-rest
-instances::arg_row-returns-in_err-rest t c =
+pub instances::arg_row-returns-in_err-next : goal.instances::arg_row-returns-in_err-next
+instances::arg_row-returns-in_err-next t c =
     let n = c.args.left in
-    let p = err_from_is_err_and c.from_residual-in_err-rest.result c.from_residual-in_err-rest.ensures.1 in
-    rw (p.1, p.2) (fit_stuck n is_comma is_close_bracket (λ (x : Fit TypeExpr). false) (λ x. x.0) (λ x. x.1) (type_at n) (type_eats n) c.loop-after.args c.loop-after.fit c.loop-after.rest.now c.in_default.field-0 (c.in_ok-arg.arg, c.in_ok-arg.inside) c.in_ok-arg.behind.now c.in_default-past.field-0 c.in_err-rest.field-0.0 (with_fit c.args.found (series (type_list n) (type_at n) c.args.tokens.now)) c.in_default.ensures c.in_ok-arg.ensures c.in_default-past.ensures c.in_err-rest.ensures c.loop-after.invariant.same)
+    let p = err_from_is_err_and c.from_residual-in_err-next.result c.from_residual-in_err-next.ensures.1 in
+    rw (p.1, p.2) (fit_stuck n is_comma is_close_bracket (λ (x : Fit TypeExpr). false) (λ x. x.0) (λ x. x.1) (type_at n) (type_eats n) c.loop-after.args c.loop-after.fit c.loop-after.rest.now c.in_default.field-0 (c.in_ok-arg.arg, c.in_ok-arg.inside) c.in_ok-arg.behind.now c.in_default-past.field-0 c.in_err-next.field-0.0 (with_fit c.args.found (series (type_list n) (type_at n) c.args.tokens.now)) c.in_default.ensures c.in_ok-arg.ensures c.in_default-past.ensures c.in_err-next.ensures c.loop-after.invariant.same)
 
 pub instances::arg_row-loop-after-smaller : goal.instances::arg_row-loop-after-smaller
 instances::arg_row-loop-after-smaller t c =
     let n = c.args.left in
-    series_smaller is_comma (type_at n) (type_eats n) c.loop-after.rest.now (c.in_ok-arg.arg, c.in_ok-arg.inside) c.in_ok-arg.behind.now c.in_ok-rest.rest.now c.in_ok-arg.ensures c.in_ok-rest.ensures
+    rw c.onward-rest.ensures (series_smaller is_comma (type_at n) (type_eats n) c.loop-after.rest.now (c.in_ok-arg.arg, c.in_ok-arg.inside) c.in_ok-arg.behind.now c.in_ok-next.next.now c.in_ok-arg.ensures c.in_ok-next.ensures)
 
 pub instances::arg_row-loop-after-preserved : goal.instances::arg_row-loop-after-preserved
 instances::arg_row-loop-after-preserved t c =
     let n = c.args.left in
     let less : min c.loop-after.fit c.in_ok-arg.inside ≤ n = omega (arith, c.loop-after.invariant.small) in
-    rw (c.in_ok-push.ensures.ok, c.min-fit.ensures) (record {
+    rw (c.onward-rest.ensures, c.in_ok-push.ensures.ok, c.min-fit.ensures) (record {
       small = less;
-      same = fit_goes n is_comma is_close_bracket (λ (x : Fit TypeExpr). false) (λ x. x.0) (λ x. x.1) (type_at n) (type_eats n) c.loop-after.args c.loop-after.fit c.loop-after.rest.now c.in_default.field-0 (c.in_ok-arg.arg, c.in_ok-arg.inside) c.in_ok-arg.behind.now c.in_ok-rest.rest.now c.in_default-past.field-0 (with_fit c.args.found (series (type_list n) (type_at n) c.args.tokens.now)) refl c.in_default.ensures c.in_ok-arg.ensures c.in_default-past.ensures c.in_ok-rest.ensures c.loop-after.invariant.same;
+      same = fit_goes n is_comma is_close_bracket (λ (x : Fit TypeExpr). false) (λ x. x.0) (λ x. x.1) (type_at n) (type_eats n) c.loop-after.args c.loop-after.fit c.loop-after.rest.now c.in_default.field-0 (c.in_ok-arg.arg, c.in_ok-arg.inside) c.in_ok-arg.behind.now c.in_ok-next.next.now c.in_default-past.field-0 (with_fit c.args.found (series (type_list n) (type_at n) c.args.tokens.now)) refl c.in_default.ensures c.in_ok-arg.ensures c.in_default-past.ensures c.in_ok-next.ensures c.loop-after.invariant.same;
     })
 
 pub params::first_type-returns : goal.params::first_type-returns
@@ -274,7 +274,7 @@ types::embedded_name-returns-in_err-ty t c =
 pub types::embedded_name-returns : goal.types::embedded_name-returns
 types::embedded_name-returns t c =
     let n = c.args.left in
-    rw (lone_gives n c.args.first c.args.tokens.now (c.in_ok-ty.ty, c.in_ok-ty.fit) c.in_ok-ty.rest.now c.if-left-eq0.false c.in_ok-ty.ensures, c.tag-tag.ensures, c.new.ensures) refl
+    rw (lone_gives n c.args.first c.args.tokens.now (c.in_ok-ty.ty, c.in_ok-ty.fit) c.in_ok-ty.rest.now c.if-left-eq0.false c.in_ok-ty.ensures, c.in_ok-tag.ensures, c.new.ensures) refl
 
 pub types::embedded_pointer-returns-in_err-base : goal.types::embedded_pointer-returns-in_err-base
 types::embedded_pointer-returns-in_err-base t c =
@@ -285,7 +285,7 @@ types::embedded_pointer-returns-in_err-base t c =
 pub types::embedded_pointer-returns : goal.types::embedded_pointer-returns
 types::embedded_pointer-returns t c =
     let n = c.args.left in
-    rw (star_gives n c.args.at c.args.tokens.now (c.in_ok-base.base, c.in_ok-base.fit) c.in_ok-base.rest.now (λ e. omega arith) (sym c.if-not-starts.ensures) c.in_ok-base.ensures, c.tag-tag.ensures, c.new-2.ensures, c.in_ok-new.ensures) refl
+    rw (star_gives n c.args.at c.args.tokens.now (c.in_ok-base.base, c.in_ok-base.fit) c.in_ok-base.rest.now (λ e. omega arith) (sym c.if-not-starts.ensures) c.in_ok-base.ensures, c.in_ok-tag.ensures, c.new-2.ensures, c.in_ok-new.ensures) refl
 
 pub instances::type_args-returns : goal.instances::type_args-returns
 instances::type_args-returns t c =

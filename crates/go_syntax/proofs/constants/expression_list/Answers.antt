@@ -14,9 +14,10 @@ returns-in_default c =
     c.in_ok-value.ensures c.in_default.ensures c.loop-found.invariant)
 
 pub loop-found-smaller : goal.loop-found-smaller
-loop-found-smaller c = exprs_smaller c.args.left c.loop-found.rest.now c.in_ok-value.value c.in_ok-value.field-0-0-1 c.in_ok-value.after.now c.in-Ok.next.now c.in_ok-value.ensures c.in-Ok.ensures
+loop-found-smaller c =
+    rw c.onward-rest.ensures (exprs_smaller c.args.left c.loop-found.rest.now c.in_ok-value.value c.in_ok-value.field-0-0-1 c.in_ok-value.after.now c.in-Ok.next.now c.in_ok-value.ensures c.in-Ok.ensures)
 
 pub loop-found-preserved : goal.loop-found-preserved
 loop-found-preserved c =
-    rw c.in_ok-push.ensures.ok (exprs_go c.args.left c.loop-found.found c.loop-found.rest.now c.in_ok-value.value c.in_ok-value.field-0-0-1 c.in_ok-value.after.now c.in-Ok.next.now (exprs_at c.args.left c.args.tokens.now)
+    rw (c.in_ok-push.ensures.ok, c.onward-rest.ensures) (exprs_go c.args.left c.loop-found.found c.loop-found.rest.now c.in_ok-value.value c.in_ok-value.field-0-0-1 c.in_ok-value.after.now c.in-Ok.next.now (exprs_at c.args.left c.args.tokens.now)
     c.in_ok-value.ensures c.in-Ok.ensures c.loop-found.invariant)

@@ -20,17 +20,17 @@ returns-in-Ok-past c =
     rw c.in_ok-push.ensures.ok (turn_last is_close_paren (spec_of c.args.keyword c.args.left) (spec_eats c.args.keyword c.args.left c.requires) c.loop-after.found c.loop-after.rest.now c.in_default.field-0 c.in_ok-spec.spec c.in_ok-spec.behind.now c.in-Ok-past.after.now
     (row is_close_paren (spec_of c.args.keyword c.args.left) c.args.tokens.now) c.in_default.ensures c.in_ok-spec.ensures c.in-Ok-past.ensures c.loop-after.invariant)
 
-pub returns-in_err-rest : goal.returns-in_err-rest
-returns-in_err-rest c =
-    let p = err_from_is_err_and c.from_residual-in_err-rest.result c.from_residual-in_err-rest.ensures.1 in
-    rw (p.1, p.2) (turn_stuck is_close_paren (spec_of c.args.keyword c.args.left) (spec_eats c.args.keyword c.args.left c.requires) c.loop-after.found c.loop-after.rest.now c.in_default.field-0 c.in_ok-spec.spec c.in_ok-spec.behind.now c.in_default-past.field-0 c.in_err-rest.field-0.0
-    (row is_close_paren (spec_of c.args.keyword c.args.left) c.args.tokens.now) c.in_default.ensures c.in_ok-spec.ensures c.in_default-past.ensures c.in_err-rest.ensures c.loop-after.invariant)
+pub returns-in_err-next : goal.returns-in_err-next
+returns-in_err-next c =
+    let p = err_from_is_err_and c.from_residual-in_err-next.result c.from_residual-in_err-next.ensures.1 in
+    rw (p.1, p.2) (turn_stuck is_close_paren (spec_of c.args.keyword c.args.left) (spec_eats c.args.keyword c.args.left c.requires) c.loop-after.found c.loop-after.rest.now c.in_default.field-0 c.in_ok-spec.spec c.in_ok-spec.behind.now c.in_default-past.field-0 c.in_err-next.field-0.0
+    (row is_close_paren (spec_of c.args.keyword c.args.left) c.args.tokens.now) c.in_default.ensures c.in_ok-spec.ensures c.in_default-past.ensures c.in_err-next.ensures c.loop-after.invariant)
 
 pub loop-after-smaller : goal.loop-after-smaller
 loop-after-smaller c =
-    turn_smaller (spec_of c.args.keyword c.args.left) (spec_eats c.args.keyword c.args.left c.requires) c.loop-after.rest.now c.in_ok-spec.spec c.in_ok-spec.behind.now c.in_ok-rest.rest.now c.in_ok-spec.ensures c.in_ok-rest.ensures
+    rw c.onward-rest.ensures (turn_smaller (spec_of c.args.keyword c.args.left) (spec_eats c.args.keyword c.args.left c.requires) c.loop-after.rest.now c.in_ok-spec.spec c.in_ok-spec.behind.now c.in_ok-next.next.now c.in_ok-spec.ensures c.in_ok-next.ensures)
 
 pub loop-after-preserved : goal.loop-after-preserved
 loop-after-preserved c =
-    rw c.in_ok-push.ensures.ok (turn_more is_close_paren (spec_of c.args.keyword c.args.left) (spec_eats c.args.keyword c.args.left c.requires) c.loop-after.found c.loop-after.rest.now c.in_default.field-0 c.in_ok-spec.spec c.in_ok-spec.behind.now c.in_ok-rest.rest.now c.in_default-past.field-0
-    (row is_close_paren (spec_of c.args.keyword c.args.left) c.args.tokens.now) c.in_default.ensures c.in_ok-spec.ensures c.in_default-past.ensures c.in_ok-rest.ensures c.loop-after.invariant)
+    rw (c.in_ok-push.ensures.ok, c.onward-rest.ensures) (turn_more is_close_paren (spec_of c.args.keyword c.args.left) (spec_eats c.args.keyword c.args.left c.requires) c.loop-after.found c.loop-after.rest.now c.in_default.field-0 c.in_ok-spec.spec c.in_ok-spec.behind.now c.in_ok-next.next.now c.in_default-past.field-0
+    (row is_close_paren (spec_of c.args.keyword c.args.left) c.args.tokens.now) c.in_default.ensures c.in_ok-spec.ensures c.in_default-past.ensures c.in_ok-next.ensures c.loop-after.invariant)

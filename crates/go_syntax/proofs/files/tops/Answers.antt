@@ -13,8 +13,9 @@ returns-in_default c =
     done_at (top_decl c.args.left) (top_step c.args.left) (top_steps c.args.left c.requires) c.loop-found.found c.loop-found.rest.now c.in_ok-decl.decl c.in_ok-decl.after.now (tops_at c.args.left c.args.tokens.now) c.in_ok-decl.ensures c.in_default.is c.loop-found.invariant
 
 pub loop-found-smaller : goal.loop-found-smaller
-loop-found-smaller c = smaller_at (top_decl c.args.left) (top_step c.args.left) (top_steps c.args.left c.requires) c.loop-found.rest.now c.in_ok-decl.decl c.in-Some.more c.in_ok-decl.after.now c.in_ok-decl.ensures c.in-Some.is
+loop-found-smaller c =
+    rw c.onward-rest.ensures (smaller_at (top_decl c.args.left) (top_step c.args.left) (top_steps c.args.left c.requires) c.loop-found.rest.now c.in_ok-decl.decl c.in-Some.more c.in_ok-decl.after.now c.in_ok-decl.ensures c.in-Some.is)
 
 pub loop-found-preserved : goal.loop-found-preserved
 loop-found-preserved c =
-    rw c.in_ok-append.ensures (goes_at (top_decl c.args.left) (top_step c.args.left) (top_steps c.args.left c.requires) c.loop-found.found c.loop-found.rest.now c.in_ok-decl.decl c.in-Some.more c.in_ok-decl.after.now (tops_at c.args.left c.args.tokens.now) c.in_ok-decl.ensures c.in-Some.is c.loop-found.invariant)
+    rw (c.in_ok-append.ensures, c.onward-rest.ensures) (goes_at (top_decl c.args.left) (top_step c.args.left) (top_steps c.args.left c.requires) c.loop-found.found c.loop-found.rest.now c.in_ok-decl.decl c.in-Some.more c.in_ok-decl.after.now (tops_at c.args.left c.args.tokens.now) c.in_ok-decl.ensures c.in-Some.is c.loop-found.invariant)

@@ -24,17 +24,17 @@ returns-in-Ok-past c =
     rw c.in_ok-push.ensures.ok (series_last tparams (tparam_at c.args.left) (tparam_eats c.args.left) (λ xs. c.loop-after.found ++ xs) c.loop-after.rest.now c.in_default.field-0 c.in_ok-tparam.tparam c.in_ok-tparam.behind.now c.in-Ok-past.after.now
     (tparams_row c.args.left c.args.found c.args.tokens.now) c.in_default.ensures c.in_ok-tparam.ensures c.in-Ok-past.ensures c.loop-after.invariant)
 
-pub returns-in_err-rest : goal.returns-in_err-rest
-returns-in_err-rest c =
-    let p = err_from_is_err_and c.from_residual-in_err-rest.result c.from_residual-in_err-rest.ensures.1 in
-    rw (p.1, p.2) (series_stuck tparams (tparam_at c.args.left) (tparam_eats c.args.left) (λ xs. c.loop-after.found ++ xs) c.loop-after.rest.now c.in_default.field-0 c.in_ok-tparam.tparam c.in_ok-tparam.behind.now c.in_default-past.field-0 c.in_err-rest.field-0.0
-    (tparams_row c.args.left c.args.found c.args.tokens.now) c.in_default.ensures c.in_ok-tparam.ensures c.in_default-past.ensures c.in_err-rest.ensures c.loop-after.invariant)
+pub returns-in_err-next : goal.returns-in_err-next
+returns-in_err-next c =
+    let p = err_from_is_err_and c.from_residual-in_err-next.result c.from_residual-in_err-next.ensures.1 in
+    rw (p.1, p.2) (series_stuck tparams (tparam_at c.args.left) (tparam_eats c.args.left) (λ xs. c.loop-after.found ++ xs) c.loop-after.rest.now c.in_default.field-0 c.in_ok-tparam.tparam c.in_ok-tparam.behind.now c.in_default-past.field-0 c.in_err-next.field-0.0
+    (tparams_row c.args.left c.args.found c.args.tokens.now) c.in_default.ensures c.in_ok-tparam.ensures c.in_default-past.ensures c.in_err-next.ensures c.loop-after.invariant)
 
 pub loop-after-smaller : goal.loop-after-smaller
 loop-after-smaller c =
-    series_smaller is_comma (tparam_at c.args.left) (tparam_eats c.args.left) c.loop-after.rest.now c.in_ok-tparam.tparam c.in_ok-tparam.behind.now c.in_ok-rest.rest.now c.in_ok-tparam.ensures c.in_ok-rest.ensures
+    rw c.onward-rest.ensures (series_smaller is_comma (tparam_at c.args.left) (tparam_eats c.args.left) c.loop-after.rest.now c.in_ok-tparam.tparam c.in_ok-tparam.behind.now c.in_ok-next.next.now c.in_ok-tparam.ensures c.in_ok-next.ensures)
 
 pub loop-after-preserved : goal.loop-after-preserved
 loop-after-preserved c =
-    rw c.in_ok-push.ensures.ok (tparams_more c.args.left c.loop-after.found c.loop-after.rest.now c.in_default.field-0 c.in_ok-tparam.tparam c.in_ok-tparam.behind.now c.in_ok-rest.rest.now c.in_default-past.field-0
-    (tparams_row c.args.left c.args.found c.args.tokens.now) c.in_default.ensures c.in_ok-tparam.ensures c.in_default-past.ensures c.in_ok-rest.ensures c.loop-after.invariant)
+    rw (c.in_ok-push.ensures.ok, c.onward-rest.ensures) (tparams_more c.args.left c.loop-after.found c.loop-after.rest.now c.in_default.field-0 c.in_ok-tparam.tparam c.in_ok-tparam.behind.now c.in_ok-next.next.now c.in_default-past.field-0
+    (tparams_row c.args.left c.args.found c.args.tokens.now) c.in_default.ensures c.in_ok-tparam.ensures c.in_default-past.ensures c.in_ok-next.ensures c.loop-after.invariant)
