@@ -12,6 +12,3 @@ pub use laws::words_have_one_reading;
 pub use names::{NameWord, NameWords};
 pub use sources::SourceWord;
 pub use texts::{is_file, is_path};
-
-#[cfg(test)]
-mod tests;

@@ -2,8 +2,8 @@
 use Rattle.std.proofs.Common.{◌≡◌, ◌⊎◌, inl, inr, ℤ, List, ℕ, Bool, true, false, cond, Some, None, refl, sym, ◌∙◌, ap}
 use Rattle.code_tables.specs.declared.predeclared.Basic.{Basic}
 use Rattle.code_tables.specs.declared.predeclared.Basic.TheVariants.{UntypedBool, UntypedRune}
-use Rattle.code_tables.specs.declared.constants.Const.{Const}
-use Rattle.code_tables.specs.declared.constants.Const.TheVariants.{Bool as Truth, Int, Str}
+use Rattle.go_values.specs.declared.constants.Const.{Const}
+use Rattle.go_values.specs.declared.constants.Const.TheVariants.{Bool as Truth, Int, Str}
 use Rattle.const_values.specs.declared.operators.BinaryOp.{BinaryOp}
 use Rattle.const_values.specs.declared.operators.BinaryOp.TheVariants.{Eq, Ne, Lt, Le, Gt, Ge}
 use Rattle.const_values.specs.Kinds.{is_truth, is_whole, is_text, is_untyped, same_kind, untyped_kind, common_kind}

@@ -8,7 +8,7 @@ use Rattle.std.proofs.lemmas.Bool.{cases_eq}
 use Rattle.std.proofs.lemmas.Nat.{one_shl}
 use Rattle.std.proofs.lemmas.Int.{to_z_pos, unsigned_abs-mul}
 use Rattle.std.proofs.lemmas.Bool.Decides.{nat_tests}
-use Rattle.code_tables.specs.declared.constants.Const.TheVariants.{Int}
+use Rattle.go_values.specs.declared.constants.Const.TheVariants.{Int}
 use Rattle.const_values.specs.declared.values.Value.{Value}
 use Rattle.const_values.specs.Answers.{shift_answer, within_kind}
 use Rattle.const_values.specs.Exact.{shift_left, shift_right, shift_by}

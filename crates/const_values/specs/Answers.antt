@@ -2,7 +2,7 @@
 use Rattle.std.specs.Prelude.{Bool, true, false, not, ◌&&◌, List, [], ◌∷◌, Option, Some, None, Result, Ok, Err, if◌then◌else◌, is_none, unwrap_or}
 use Rattle.code_tables.specs.declared.predeclared.Basic.{Basic}
 use Rattle.code_tables.specs.declared.predeclared.Basic.TheVariants.{UntypedInt}
-use Rattle.code_tables.specs.declared.constants.Const.{Const}
+use Rattle.go_values.specs.declared.constants.Const.{Const}
 use Rattle.const_values.specs.declared.values.Value.{Value}
 use Rattle.const_values.specs.declared.operators.ConstFault.{ConstFault}
 use Rattle.const_values.specs.declared.operators.ConstFault.TheVariants.{Mismatch, DivideByZero, Wide, Overflow, NegativeShift, FloatConstant}

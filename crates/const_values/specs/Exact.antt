@@ -5,8 +5,8 @@ use Rattle.std.specs.Ordering.{int_eq, nat_cmp, is_lt, is_gt}
 use Rattle.std.specs.Cmp.Lexicographic.{pointwise, slice_cmp}
 use Rattle.code_tables.specs.declared.predeclared.Basic.{Basic}
 use Rattle.code_tables.specs.declared.predeclared.Basic.TheVariants.{UntypedBool}
-use Rattle.code_tables.specs.declared.constants.Const.{Const}
-use Rattle.code_tables.specs.declared.constants.Const.TheVariants.{Bool as Truth, Int, Str}
+use Rattle.go_values.specs.declared.constants.Const.{Const}
+use Rattle.go_values.specs.declared.constants.Const.TheVariants.{Bool as Truth, Int, Str}
 use Rattle.const_values.specs.declared.operators.BinaryOp.{BinaryOp}
 use Rattle.const_values.specs.declared.operators.BinaryOp.TheVariants.{Or, And, Eq, Ne, Lt, Le, Gt, Ge, Add, Sub, BitOr, Xor, Mul, Div, Rem, BitAnd, AndNot}
 use Rattle.const_values.specs.declared.operators.UnaryOp.{UnaryOp}

@@ -1,8 +1,8 @@
 -- The values of a kind.
 use Rattle.std.specs.Prelude.{Bool, true, IsTrue}
 use Rattle.code_tables.specs.declared.predeclared.Basic.{Basic}
-use Rattle.code_tables.specs.declared.constants.Const.{Const}
-use Rattle.code_tables.specs.declared.constants.Const.TheVariants.{Bool as Truth, Int, Str}
+use Rattle.go_values.specs.declared.constants.Const.{Const}
+use Rattle.go_values.specs.declared.constants.Const.TheVariants.{Bool as Truth, Int, Str}
 use Rattle.const_values.specs.Kinds.{is_truth, is_whole, is_text, fits}
 use Rattle.const_values.specs.declared.values.Value.{Value}
 

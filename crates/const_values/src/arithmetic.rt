@@ -9,7 +9,7 @@ ghost use Rattle.const_values.specs.Values.{in_range};
 
 use crate::bits;
 use crate::operators::BinaryOp;
-use code_tables::Const;
+use go_values::Const;
 
 /// The exact result of an operator on whole numbers, or `None` where it has more than 128 bits.
 pub fn of_wholes(op: BinaryOp, left: i128, right: i128) -> Option<Const>

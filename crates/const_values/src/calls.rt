@@ -7,7 +7,8 @@ use crate::kinds::{admits, common_kind, flip_within, in_range, is_floating};
 use crate::operators::{BinaryOp, ConstFault, UnaryOp};
 use crate::results::{has, is_division, is_zero, result_kind, result_of};
 use crate::values::Value;
-use code_tables::{Basic, Bytes, Const};
+use code_tables::Basic;
+use go_values::{Bytes, Const};
 use std::alloc::{AllocError, Global};
 
 /// The value of an operator with one operand: `+`, `-`, `^` or `!`. Takes no memory.

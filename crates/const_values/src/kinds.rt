@@ -4,7 +4,8 @@ ghost use Rattle.const_values.specs.Kinds as kinds;
 ghost use Rattle.const_values.specs.Values as values;
 
 use crate::bits;
-use code_tables::{Basic, Const};
+use code_tables::Basic;
+use go_values::Const;
 
 /// Whether the kind is one of floating or complex numbers.
 pub fn is_floating(kind: Basic) -> bool

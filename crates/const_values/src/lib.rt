@@ -15,6 +15,3 @@ mod values;
 pub use calls::{binary, convert, shift, unary};
 pub use operators::{BinaryOp, ConstFault, UnaryOp};
 pub use values::Value;
-
-#[cfg(test)]
-mod tests;

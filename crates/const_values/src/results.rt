@@ -6,7 +6,8 @@ ghost use Rattle.const_values.specs.Values.{in_range, IsText};
 
 use crate::arithmetic;
 use crate::operators::{BinaryOp, ConstFault};
-use code_tables::{Basic, Bytes, Const};
+use code_tables::Basic;
+use go_values::{Bytes, Const};
 use std::alloc::{AllocError, Global};
 
 /// Whether two values are of one class, and the class has the operator.

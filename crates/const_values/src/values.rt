@@ -1,7 +1,8 @@
 ghost use Rattle.std.specs.Prelude.{IsTrue, ◌↔◌};
 
 use crate::kinds::{admits, in_range};
-use code_tables::{Basic, Const};
+use code_tables::Basic;
+use go_values::Const;
 
 /// A constant: a value of a basic kind. The calls of this crate ask that it is one of its kind: a truth
 /// value, a text, or a whole number in the range of its kind, which for an untyped one is from -2^127 to

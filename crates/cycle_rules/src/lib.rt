@@ -8,6 +8,3 @@ mod shapes;
 
 pub use cycles::{CycleFault, CycleKind, Ranks, check_cycles, ranks_exclude_cycles};
 pub use shapes::{Form, Shape};
-
-#[cfg(test)]
-mod tests;

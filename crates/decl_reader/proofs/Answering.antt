@@ -9,7 +9,7 @@ use Rattle.wire_bytes.specs.Reading.{◌>>=◌, demand}
 use Rattle.wire_bytes.proofs.Steps.{bind_ok, demand_ok}
 use Rattle.type_terms.specs.Trees.{Tree, predeclared}
 use Rattle.decl_spelling.specs.declared.mention.Mention.{Mention}
-use Rattle.decl_spelling.specs.Source.{Source}
+use Rattle.decl_spelling.specs.Sections.{Sections}
 use Rattle.decl_spelling.specs.Codes.{basic_of}
 use Rattle.decl_spelling.specs.Tables.{Finished, Table, at, type_named, basic_tree, finished_tree}
 use Rattle.decl_spelling.specs.Descent.{meets, unmet, resolve}
@@ -18,7 +18,7 @@ use Rattle.decl_reader.specs.Frames.{answered}
 use Rattle.decl_reader.specs.Opens.{reads, checked_type, checked_basic, checked_finished}
 use Rattle.decl_reader.proofs.Opened.{basic_there, no_basic, found_before, runs_over}
 
-module _ (src : Source) (holder : ℕ) (m : Mention) (done : Table) where
+module _ (src : Sections) (holder : ℕ) (m : Mention) (done : Table) where
   by_type : (tree : Tree) → type_named src.version done m.value ≡ tree → answered src.version m done ≡ (checked_type m tree >>= λ u. Ok done)
   by_type tree is = ap (λ (t : Tree). demand (meets m.asked t) (unmet m m.asked) >>= λ u. Ok done) is
 

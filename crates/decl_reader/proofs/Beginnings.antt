@@ -8,7 +8,7 @@ use Rattle.wire_bytes.specs.Reading.{place}
 use Rattle.type_terms.specs.declared.descriptors.Node.{Node}
 use Rattle.type_terms.specs.Shapes.{predeclared_of, named_of, parameter_of, alias_of, pointer_of, slice_of, array_of, chan_of, map_of, func_of, struct_of, interface_of, instance_of, union_of}
 use Rattle.decl_spelling.specs.declared.mention.Mention.{Mention}
-use Rattle.decl_spelling.specs.Source.{Source, window}
+use Rattle.decl_spelling.specs.Sections.{Sections, window}
 use Rattle.decl_spelling.specs.Reading.{Ahead, Stopped, start}
 use Rattle.decl_spelling.specs.Descriptors.{Flat, flat_at}
 use Rattle.decl_spelling.specs.Tables.{Table, free_to}
@@ -21,14 +21,14 @@ use Rattle.decl_spelling.proofs.BlocksTaken.{window_fits, offset_is}
 use Rattle.decl_spelling.proofs.AskedTypes.{asks_from}
 use Rattle.decl_spelling.proofs.Windows.{part, behind, part_length, cut_at}
 use Rattle.wire_bytes.specs.declared.fault.ByteFault.{ByteFault}
-use Rattle.position_codec.specs.declared.parts.Parts.{Parts}
-use Rattle.decl_spelling.specs.Source.{HoldsBytes}
+use Rattle.file_parts.specs.declared.parts.Parts.{Parts}
+use Rattle.decl_spelling.specs.Sections.{HoldsBytes}
 use Rattle.decl_spelling.specs.Tables.{at}
 use Rattle.decl_spelling.proofs.TableLaws.{free_within}
 use Rattle.decl_spelling.proofs.Decided.{strings_are, body_is}
 use Rattle.decl_reader.specs.declared.block.Block.{Block}
 use Rattle.decl_reader.specs.declared.flat.descriptors.Flat.{Flat as FlatParts}
-use Rattle.position_codec.specs.FileParts.{IsOfFile, body_of}
+use Rattle.file_parts.specs.FileParts.{IsOfFile, body_of}
 use Rattle.decl_reader.specs.Calls.{ahead_of}
 use Rattle.decl_reader.specs.Shapes.{flat_shape}
 use Rattle.decl_reader.specs.Opens.{IsBegun}
@@ -87,7 +87,7 @@ room_free nodes o end limit (e ∷ es) stacked some free = by (cases_lt o e.1.en
 
 -- ---- what was read
 
-has_argument : (src : Source) (x : Flat) (a b : Here) → IsParts src a x b → HasArgument x
+has_argument : (src : Sections) (x : Flat) (a b : Here) → IsParts src a x b → HasArgument x
 has_argument src (predeclared_of basic) a b parts = tt
 has_argument src (named_of name path) a b parts = tt
 has_argument src (parameter_of name path) a b parts = tt
@@ -103,7 +103,7 @@ has_argument src (interface_of home embedded methods) a b parts = tt
 has_argument src (instance_of base args) a b parts = parts.5
 has_argument src (union_of terms) a b parts = tt
 
-module _ (src : Source) (strings : IsBytes src.strings) (bytes : IsBytes src.body) (offset to : ℕ) (within : to ≤ length src.body) where
+module _ (src : Sections) (strings : IsBytes src.strings) (bytes : IsBytes src.body) (offset to : ℕ) (within : to ≤ length src.body) where
   abbrev from : Ahead
   from = start (window src offset to)
 
@@ -149,7 +149,7 @@ body_length p sections =
     = length-take-le (p.body_at + p.body_len - p.body_at) (drop p.body_at p.file.now) (omega (arith, length-drop p.body_at p.file.now, sections.body_inside)) in
     size ∙ omega arith
 
-module _ (src : Source) (holds : HoldsBytes src) (entries : List Entry) (stacked : IsStacked entries) (nodes : List Node) (holder : ℕ) (named : Mention)
+module _ (src : Sections) (holds : HoldsBytes src) (entries : List Entry) (stacked : IsStacked entries) (nodes : List Node) (holder : ℕ) (named : Mention)
     (large : 32 ≤ named.value) (before : named.value - 32 < holder) (within : holder ≤ length src.body) (none : at (table_of nodes entries) (named.value - 32) ≡ None) where
   abbrev offset : ℕ
   offset = named.value - 32

@@ -17,7 +17,7 @@ use Rattle.type_terms.specs.Denoted.{tree_stays}
 use Rattle.type_terms.specs.Trees.{Tree, tree_of}
 use Rattle.type_terms.specs.Shapes.{retype, predeclared_of, named_of, parameter_of, alias_of, pointer_of, slice_of, array_of, chan_of, map_of, func_of, struct_of, interface_of, instance_of, union_of}
 use Rattle.decl_spelling.specs.declared.mention.Mention.{Mention}
-use Rattle.decl_spelling.specs.Source.{Source}
+use Rattle.decl_spelling.specs.Sections.{Sections}
 use Rattle.decl_spelling.specs.Descriptors.{Flat}
 use Rattle.decl_spelling.specs.Tables.{Finished as Placed, Table, at, with_block, type_named, finished_tree}
 use Rattle.decl_spelling.specs.Descent.{meets, unmet}
@@ -32,8 +32,8 @@ use Rattle.decl_reader.specs.Meant.{IsGenericFlat}
 use Rattle.decl_reader.specs.Faults.{IsNoFault}
 use Rattle.decl_reader.specs.Frames.{answered, with_shape}
 use Rattle.decl_reader.specs.declared.flat.descriptors.Flat.{Flat as FlatParts}
-use Rattle.decl_reader.specs.declared.fault.ReadFault.{ReadFault}
-use Rattle.decl_reader.specs.declared.fault.ReadFault.TheVariants.{Bytes, Nodes, OutOfMemory}
+use Rattle.decl_reader.specs.declared.fault.DeclFault.{DeclFault}
+use Rattle.decl_reader.specs.declared.fault.DeclFault.TheVariants.{Bytes, Nodes, OutOfMemory}
 use Rattle.decl_reader.specs.Opens.{IsReady, IsOpen, IsOwn, IsClosed, IsFinished, EndsBefore, Resolves, HasArgument, checked_type}
 
 -- ---- as the arena is extended
@@ -61,7 +61,7 @@ grown_ready limit old new es after extends ready same = record {
 
 -- ---- the base of an instance
 
-generic_by : (src : Source) (done : Table) (x : Flat) → HasArgument x → IsInstanceOf (retype (known_as src done) x) → IsGenericFlat src.version done x
+generic_by : (src : Sections) (done : Table) (x : Flat) → HasArgument x → IsInstanceOf (retype (known_as src done) x) → IsGenericFlat src.version done x
 generic_by src done (predeclared_of basic) argument base = tt
 generic_by src done (named_of name path) argument base = tt
 generic_by src done (parameter_of name path) argument base = tt
@@ -77,7 +77,7 @@ generic_by src done (interface_of home embedded methods) argument base = tt
 generic_by src done (instance_of b args) argument base = (base, argument)
 generic_by src done (union_of terms) argument base = tt
 
-pub generic_flat : (src : Source) (done : Table) (start k : ℕ) (ms : List Mention) (x : Flat) → k ≡ length ms → AllByRecursion (IsAnswered src done start) (take k ms) → map ask_of ms ≡ shape_asks x → HasArgument x
+pub generic_flat : (src : Sections) (done : Table) (start k : ℕ) (ms : List Mention) (x : Flat) → k ≡ length ms → AllByRecursion (IsAnswered src done start) (take k ms) → map ask_of ms ≡ shape_asks x → HasArgument x
     → IsGenericFlat src.version done x
 generic_flat src done start k ms x all answers asks argument =
     let each : AllByRecursion (IsAnswered src done start) ms = subst (AllByRecursion (IsAnswered src done start)) (take_all k ms (omega (arith, all))) answers in
@@ -102,7 +102,7 @@ none_found nodes o end (e ∷ es) stacked room some =
     let other : o ≢ e.0 = λ same. elim room.0 [ inl ended ↦ omega (arith, stacked.0) | inr later ↦ omega arith ] in
     skip_first nodes o e es other ∙ none_found nodes o end es stacked.2 room.1 some
 
-pub type_of_new : (src : Source) (done : Table) (m : Mention) (start : ℕ) (fin : Placed) → m.value ≡ 32 + start → type_named src.version (with_block done start fin) m.value ≡ fin.tree
+pub type_of_new : (src : Sections) (done : Table) (m : Mention) (start : ℕ) (fin : Placed) → m.value ≡ 32 + start → type_named src.version (with_block done start fin) m.value ≡ fin.tree
 type_of_new src done m start fin is =
     let offset : m.value - 32 ≡ start = omega arith in
     named_block src (with_block done start fin) m.value (omega arith) ∙ ap finished_tree (ap (at (with_block done start fin)) offset ∙ found_new done start fin)
@@ -111,7 +111,7 @@ pub kept_new : (done : Table) (start : ℕ) (fin : Placed) → at done start ≡
 kept_new done start fin none o f found = found_still done start o fin (λ same. let is : at done o ≡ None = ap (at done) same ∙ none in cc) ∙ found
 
 -- What a check of the type of a descriptor that was just added says of the mention that named it.
-module _ (src : Source) (done : Table) (m : Mention) (start : ℕ) (fin : Placed) (its_start : m.value ≡ 32 + start) where
+module _ (src : Sections) (done : Table) (m : Mention) (start : ℕ) (fin : Placed) (its_start : m.value ≡ 32 + start) where
   abbrev known : Table
   known = with_block done start fin
 
@@ -133,7 +133,7 @@ module _ (src : Source) (done : Table) (m : Mention) (start : ℕ) (fin : Placed
 
 -- ---- a descriptor that joined the finished ones
 
-module _ (src : Source) (old new : Contents) (es after : List Entry) (start : ℕ) (x : Flat) (end node : ℕ) (extends : Extends old new) (ready : IsReady (length src.body) (length old.nodes) es)
+module _ (src : Sections) (old new : Contents) (es after : List Entry) (start : ℕ) (x : Flat) (end node : ℕ) (extends : Extends old new) (ready : IsReady (length src.body) (length old.nodes) es)
     (added : table_of new.nodes after ≡ with_block (table_of new.nodes es) start (record { end = end; tree = tree new.nodes node })) (denotes : tree new.nodes node ≡ tree_of (retype (type_named src.version (table_of old.nodes es)) x))
     (m : Mention) (its_start : m.value ≡ 32 + start) where
   abbrev done : Table
@@ -165,27 +165,27 @@ module _ (src : Source) (old new : Contents) (es after : List Entry) (start : �
     room = rooms;
   }
 
-pub no_fault_resolves : (e : ReadFault) (t : Table) (r : Result Table ByteFault) → IsNoFault e → Resolves (Err e) t r
+pub no_fault_resolves : (e : DeclFault) (t : Table) (r : Result Table ByteFault) → IsNoFault e → Resolves (Err e) t r
 no_fault_resolves (Bytes f) t r none = absurd none
 no_fault_resolves Nodes t r none = tt
 no_fault_resolves OutOfMemory t r none = tt
 
 -- what a whole one says of its own bytes
-pub own_is : (src : Source) (done : Table) (es : List Entry) (o : Open) (flat : FlatParts) (end : ℕ) → IsOpen src done es o → o.own ≡ Ok (flat, end) → IsOwn es o.start o.mentions.items (Ok (flat, end))
+pub own_is : (src : Sections) (done : Table) (es : List Entry) (o : Open) (flat : FlatParts) (end : ℕ) → IsOpen src done es o → o.own ≡ Ok (flat, end) → IsOwn es o.start o.mentions.items (Ok (flat, end))
 own_is src _ es o flat end is_open is = subst (IsOwn es o.start o.mentions.items) is is_open.own
 
 -- where a whole one ends
-pub own_ends : (src : Source) (done : Table) (es : List Entry) (o : Open) (flat : FlatParts) (end : ℕ) → IsOpen src done es o → o.own ≡ Ok (flat, end) → end ≤ length src.body
+pub own_ends : (src : Sections) (done : Table) (es : List Entry) (o : Open) (flat : FlatParts) (end : ℕ) → IsOpen src done es o → o.own ≡ Ok (flat, end) → end ≤ length src.body
 own_ends src _ es o flat end is_open is = subst (λ (own : Result (FlatParts × ℕ) ByteFault). EndsBefore own (length src.body)) is is_open.ends
 
-pub closed_by_finish : (src : Source) (old new : Table) (es after : List Entry) (o : Open) (flat : FlatParts) (end : ℕ) → o.own ≡ Ok (flat, end) → IsFinished src old new es after o.named end → IsClosed src old new es after o
+pub closed_by_finish : (src : Sections) (old new : Table) (es after : List Entry) (o : Open) (flat : FlatParts) (end : ℕ) → o.own ≡ Ok (flat, end) → IsFinished src old new es after o.named end → IsClosed src old new es after o
 closed_by_finish src old new es after o flat end is finished = record {
   kept = finished.kept;
   answered = λ holder below. finished.answered holder (subst (λ (own : Result (FlatParts × ℕ) ByteFault). EndsBefore own holder) is below.1);
   room = λ from to below. finished.room from to (subst (λ (own : Result (FlatParts × ℕ) ByteFault). EndsBefore own from) is below.1);
 }
 
-pub closed_if : (src : Source) (old new : Table) (es after : List Entry) (o : Open) (flat : FlatParts) (end : ℕ) (r : Result (Unit {0}) ReadFault) → o.own ≡ Ok (flat, end) → OnOk r (IsFinished src old new es after o.named end)
+pub closed_if : (src : Sections) (old new : Table) (es after : List Entry) (o : Open) (flat : FlatParts) (end : ℕ) (r : Result (Unit {0}) DeclFault) → o.own ≡ Ok (flat, end) → OnOk r (IsFinished src old new es after o.named end)
     → OnOk r (IsClosed src old new es after o)
 closed_if src old new es after o flat end (Ok u) is finished = closed_by_finish src old new es after o flat end is finished
 closed_if src old new es after o flat end (Err e) is finished = tt

@@ -5,7 +5,7 @@ use Rattle.std.specs.List.{AllByRecursion, sum_by}
 use Rattle.std.proofs.lemmas.List.Sums.{sum_by-cons}
 use Rattle.wire_bytes.specs.declared.fault.ByteFault.{ByteFault}
 use Rattle.type_terms.specs.declared.descriptors.Node.{Node}
-use Rattle.decl_spelling.specs.Source.{Source, Basics, HoldsBytes}
+use Rattle.decl_spelling.specs.Sections.{Sections, Basics, HoldsBytes}
 use Rattle.decl_spelling.specs.Declarations.{Read, read_at}
 use Rattle.decl_spelling.proofs.Decided.{strings_are, body_is}
 use Rattle.decl_spelling.proofs.Lengths.{block_length, decl_lies, decl_lengths}
@@ -45,7 +45,7 @@ table_bytes nodes [] = refl
 table_bytes nodes (e ∷ es) = sum_by-cons block_length (e.0, finished_of nodes e.1) (table_of nodes es) ∙ ap (λ n. e.1.end - e.0 + n) (table_bytes nodes es)
 
 -- a declaration that was read whole
-module _ (src : Source) (basics : Basics) (holds : HoldsBytes src) (offset : ℕ) (x : Read) (is : read_at src basics offset ≡ Ok x) where
+module _ (src : Sections) (basics : Basics) (holds : HoldsBytes src) (offset : ℕ) (x : Read) (is : read_at src basics offset ≡ Ok x) where
   pub lies_in : (src.body_at + offset ≤ x.end) × (x.end ≤ src.body_at + length src.body)
   lies_in = let lies = decl_lies src basics (strings_are src holds) (body_is src holds) offset x is in (lies.starts, lies.ends)
 

@@ -9,7 +9,7 @@ use Rattle.code_tables.specs.declared.predeclared.Basic.{Basic}
 use Rattle.type_terms.specs.Trees.{Tree}
 use Rattle.decl_spelling.specs.declared.mention.Mention.{Mention}
 use Rattle.decl_spelling.specs.Codes.{basic_of}
-use Rattle.decl_spelling.specs.Source.{Source, window}
+use Rattle.decl_spelling.specs.Sections.{Sections, window}
 use Rattle.decl_spelling.specs.Reading.{Ahead, Stopped, start}
 use Rattle.decl_spelling.specs.Descriptors.{Flat, flat_at}
 use Rattle.decl_spelling.specs.Tables.{Finished, Table, at, free_to, type_named}
@@ -34,7 +34,7 @@ stays_named m (faults.Float at) g = refl
 stays_named m (faults.NotConst at) g = refl
 stays_named m (faults.Trailing at) g = refl
 
-module _ (src : Source) (big holder : ℕ) (m : Mention) (done : Table) where
+module _ (src : Sections) (big holder : ℕ) (m : Mention) (done : Table) where
   abbrev offset : ℕ
   offset = m.value - 32
 
@@ -110,7 +110,7 @@ is_unmet version m done tree is met = ap (λ t. demand (meets m.asked t) (unmet 
 
 -- ---- the turns of the loop
 
-module _ (src : Source) (read : ReadsBlock) where
+module _ (src : Sections) (read : ReadsBlock) where
   abbrev pub with_left : Frame → List Mention → Frame
   with_left f ms = record { start = f.start; left = ms; own = f.own; named = f.named }
 

@@ -5,7 +5,7 @@ use Rattle.std.specs.List.{AllByRecursion}
 use Rattle.std.proofs.lemmas.Bool.Decides.{nat_tests}
 use Rattle.std.proofs.lemmas.List.{length-map}
 use Rattle.std.proofs.lemmas.List.Elements.{All-nil, All-map, All-weaker, All-contains, All-from_recursion}
-use Rattle.code_tables.specs.declared.positions.Pos.{Pos}
+use Rattle.go_values.specs.declared.positions.Pos.{Pos}
 use Rattle.code_tables.specs.declared.predeclared.Basic.{Basic}
 use Rattle.code_tables.specs.declared.predeclared.Basic.TheVariants.{Any as any_type}
 use Rattle.code_tables.specs.Basic.{basic_code}
@@ -18,7 +18,7 @@ use Rattle.type_terms.specs.TreeLevels.{level_of-tree_of}
 use Rattle.type_terms.specs.Parts.{Within, itself, inside, parts}
 use Rattle.type_terms.specs.Declarations.{ReceiverOf, var_of, function_of, constant_of, defined_of, renamed_of, type_parameter_of, receiver_map, form_map, form_types, Decl}
 use Rattle.type_terms.specs.Environments.{HasLast, IsProperLevel, IsProper, IsTypeParameter, IsInterface, IsUnderlying, MayHaveMethods, IsProperForm, IsProperDecl, decl_of}
-use Rattle.decl_spelling.specs.Source.{Source, Basics}
+use Rattle.decl_spelling.specs.Sections.{Sections, Basics}
 use Rattle.decl_spelling.specs.Descriptors.{Param}
 use Rattle.decl_spelling.specs.Descent.{is_parameter, is_interface, is_underlying}
 use Rattle.decl_spelling.specs.Declarations.{has_methods}
@@ -26,7 +26,7 @@ use Rattle.decl_spelling.specs.Grammar.{Here, InTurn, IsVariadic, IsSig, IsMetho
 use Rattle.decl_spelling.specs.Spelling.{Block, Known, Names, IsInstanceOf, Sound, KnownForm, number_of, same_pos, same_text, numbered, numbered_receiver, IsReceiver, IsMethods, IsGenericList, IsRightSide, IsForm, SpellsDecl}
 use Rattle.decl_spelling.proofs.NewBlocks.{block_some}
 use Rattle.decl_spelling.proofs.Forms.{form_types_map}
-use Rattle.decl_reader.specs.declared.fault.ReadFault.{ReadFault}
+use Rattle.decl_reader.specs.declared.fault.DeclFault.{DeclFault}
 use Rattle.decl_reader.proofs.Generic.{generic_by_name}
 
 abbrev tree_of_known : Known → Tree
@@ -41,24 +41,24 @@ variadic_last (p ∷ ps) a b variadic is given = omega arith
 abbrev with_trees : SigOf Pos Text Known → SigOf Pos Text Tree
 with_trees sig = sig_map same_pos same_text same_text tree_of_known sig
 
-sig_last : (src : Source) (sig : SigOf Pos Text Known) (a b : Here) → IsSig src a (numbered sig) b → HasLast (with_trees sig)
+sig_last : (src : Sections) (sig : SigOf Pos Text Known) (a b : Here) → IsSig src a (numbered sig) b → HasLast (with_trees sig)
 sig_last src sig a b is given =
     let some : 0 < length (map (param_map same_pos same_text same_text number_of) sig.params) = variadic_last (map (param_map same_pos same_text same_text number_of) sig.params) is.at_variadic b sig.variadic is.variadic given in
     omega (arith, some, length-map sig.params (param_map same_pos same_text same_text number_of), length-map sig.params (param_map same_pos same_text same_text tree_of_known))
 
-methods_last : (src : Source) (ms : List (MethodOf Pos Text Text Known)) (a b : Here) → InTurn (IsMethod src) a (map (method_map same_pos same_text same_text number_of) ms) b
+methods_last : (src : Sections) (ms : List (MethodOf Pos Text Text Known)) (a b : Here) → InTurn (IsMethod src) a (map (method_map same_pos same_text same_text number_of) ms) b
     → AllByRecursion (λ m. HasLast m.sig) (map (method_map same_pos same_text same_text tree_of_known) ms)
 methods_last src [] a b turn = tt
 methods_last src (m ∷ ms) a b turn = (sig_last src m.sig (turn.1).at_sig turn.0 (turn.1).sig, methods_last src ms turn.0 b turn.2)
 
-receivers_last : (src : Source) (ms : List (ReceiverOf Pos Text Known)) (a b : Here) → InTurn (IsReceiver src) a (map numbered_receiver ms) b
+receivers_last : (src : Sections) (ms : List (ReceiverOf Pos Text Known)) (a b : Here) → InTurn (IsReceiver src) a (map numbered_receiver ms) b
     → AllByRecursion (λ m. HasLast m.sig) (map (receiver_map same_pos same_text tree_of_known) ms)
 receivers_last src [] a b turn = tt
 receivers_last src (m ∷ ms) a b turn = (sig_last src m.sig (turn.1).at_sig turn.0 (turn.1).sig, receivers_last src ms turn.0 b turn.2)
 
 -- ---- a type at its one level
 
-level_proper : (src : Source) (x : Shape Pos Text Text Known) (a b : Here) → IsParts src a (retype number_of x) b → IsInstanceOf x → IsProperLevel (retype tree_of_known x)
+level_proper : (src : Sections) (x : Shape Pos Text Text Known) (a b : Here) → IsParts src a (retype number_of x) b → IsInstanceOf x → IsProperLevel (retype tree_of_known x)
 level_proper src (array_of size type) a b is generic = is.2
 level_proper src (func_of home sig) a b is generic = sig_last src sig is.0 b is.2
 level_proper src (interface_of home embedded methods) a b is generic =
@@ -79,7 +79,7 @@ basic_proper basic part within = within_proper (predeclared_of basic) (All-nil I
 
 -- ---- the types of blocks
 
-module _ (src : Source) (blocks : List Block) (sound : Sound src blocks) where
+module _ (src : Sections) (blocks : List Block) (sound : Sound src blocks) where
   named_proper : (holder : ℕ) → ((b : Block) → Contains blocks b → b.end ≤ holder → IsProper b.tree) → (x : Known) → Names src blocks holder x → IsProper x.tree
   named_proper holder below x (inl small) = subst IsProper (sym small.3) (basic_proper small.1)
   named_proper holder below x (inr large) = subst IsProper (sym large.4) (below large.0 large.1 large.3)
@@ -147,7 +147,7 @@ no_methods : (ms : List (ReceiverOf Pos Text Known)) → map numbered_receiver m
 no_methods [] none = refl
 no_methods (m ∷ ms) none = absurd cc
 
-methods_proper : (src : Source) (type : Tree) (own : Bool) (ms : List (ReceiverOf Pos Text Known)) (a b : Here) → has_methods type ≡ own → IsMethods src own a (map numbered_receiver ms) b
+methods_proper : (src : Sections) (type : Tree) (own : Bool) (ms : List (ReceiverOf Pos Text Known)) (a b : Here) → has_methods type ≡ own → IsMethods src own a (map numbered_receiver ms) b
     → ((map (receiver_map same_pos same_text tree_of_known) ms ≡ []) ⊎ MayHaveMethods type) × All (λ m. HasLast m.sig) (map (receiver_map same_pos same_text tree_of_known) ms)
 methods_proper src type true ms a b is stands =
     (inr (may_have_methods type is), All-from_recursion (λ m. HasLast m.sig) (map (receiver_map same_pos same_text tree_of_known) ms) (receivers_last src ms stands.0 b stands.2))
@@ -164,7 +164,7 @@ right_side : (tparams : List Known) (type : Tree) → IsRightSide tparams type �
 right_side [] type is = inl refl
 right_side (t ∷ ts) type is = inr (no_type_parameter type is)
 
-form_proper : (src : Source) (basics : Basics) (a : Here) (x : KnownForm) (b : Here) → IsForm src basics a x b → IsProperForm (form_map same_pos same_text tree_of_known x)
+form_proper : (src : Sections) (basics : Basics) (a : Here) (x : KnownForm) (b : Here) → IsForm src basics a x b → IsProperForm (form_map same_pos same_text tree_of_known x)
 form_proper src basics a (var_of pos type) b stands = tt
 form_proper src basics a (function_of pos tparams sig) b stands = (tparams_proper tparams stands.0 stands.1 stands.3, sig_last src sig stands.1 b stands.4)
 form_proper src basics a (constant_of pos type value) b stands = tt
@@ -174,7 +174,7 @@ form_proper src basics a (defined_of pos tparams underlying methods) b stands =
 form_proper src basics a (renamed_of pos tparams type) b stands = (tparams_proper tparams stands.0 stands.1 stands.3, right_side tparams type.tree stands.5)
 form_proper src basics a (type_parameter_of pos implicit constraint) b stands = λ given. is_an_interface constraint.tree (stands.5 given)
 
-pub decl_proper : (src : Source) (basics : Basics) (offset : ℕ) (decl : Decl) → SpellsDecl src basics offset decl → IsProperDecl decl
+pub decl_proper : (src : Sections) (basics : Basics) (offset : ℕ) (decl : Decl) → SpellsDecl src basics offset decl → IsProperDecl decl
 decl_proper src basics offset decl spells =
     let below : (b : Block) → Contains spells.blocks b → b.end ≤ offset → IsProper b.tree = λ b has ends. block_proper src spells.blocks spells.sound b.end b has (omega arith) in
     subst IsProperDecl (sym spells.meant) (record {
@@ -182,6 +182,6 @@ decl_proper src basics offset decl spells =
       types = subst (All IsProper) (sym (form_types_map tree_of_known spells.parts)) (all_proper src spells.blocks spells.sound offset below (form_types spells.parts) spells.named);
     })
 
-pub read_proper : (src : Source) (basics : Basics) (offset : ℕ) (nodes : List Node) (r : Result DeclNode ReadFault) → IfOk r (λ node. SpellsDecl src basics offset (decl_of nodes node)) → IfOk r (λ node. IsProperDecl (decl_of nodes node))
+pub read_proper : (src : Sections) (basics : Basics) (offset : ℕ) (nodes : List Node) (r : Result DeclNode DeclFault) → IfOk r (λ node. SpellsDecl src basics offset (decl_of nodes node)) → IfOk r (λ node. IsProperDecl (decl_of nodes node))
 read_proper src basics offset nodes (Ok node) spells = decl_proper src basics offset (decl_of nodes node) spells
 read_proper src basics offset nodes (Err e) spells = tt

@@ -10,7 +10,7 @@ use Rattle.wire_bytes.specs.Reading.{◌>>=◌}
 use Rattle.type_terms.specs.declared.descriptors.Node.{Node}
 use Rattle.type_terms.specs.Arenas.{Contents, Extends}
 use Rattle.decl_spelling.specs.declared.mention.Mention.{Mention}
-use Rattle.decl_spelling.specs.Source.{Source}
+use Rattle.decl_spelling.specs.Sections.{Sections}
 use Rattle.decl_spelling.specs.Tables.{Table}
 use Rattle.decl_spelling.specs.Descent.{resolve, resolve_all}
 use Rattle.decl_spelling.proofs.NamedTypes.{IsAnswered, answered_still}
@@ -18,8 +18,8 @@ use Rattle.std.specs.Prelude.{reverse, IsErrOf}
 use Rattle.std.proofs.Math.Nat.{one-le-pow, pow-le-pow_right, pow-suc, suc-mul, mul-add, mul_comm, mul-le-mul_right}
 use Rattle.std.proofs.lemmas.List.{reverse-append, reverse-reverse}
 use Rattle.decl_reader.specs.declared.descent.Open.{Open}
-use Rattle.decl_reader.specs.declared.fault.ReadFault.{ReadFault}
-use Rattle.decl_reader.specs.declared.fault.ReadFault.TheVariants.{Bytes, Nodes, OutOfMemory}
+use Rattle.decl_reader.specs.declared.fault.DeclFault.{DeclFault}
+use Rattle.decl_reader.specs.declared.fault.DeclFault.TheVariants.{Bytes, Nodes, OutOfMemory}
 use Rattle.decl_reader.specs.Blocks.{Entry, table_of}
 use Rattle.decl_reader.specs.Frames.{closed, closed_by, resume}
 use Rattle.decl_reader.specs.Opens.{IsReady, IsOpen, IsOwn, IsBelow, IsBegun, IsClosed, EndsBefore, AreHolders, Begins, Resolves, reads, resumed, frame_of, holder_of, own_shape}
@@ -54,7 +54,7 @@ all_weight most current holders = open_weight most current + holders_weight most
 
 -- ---- what the loop keeps
 
-pub record Running (src : Source) (first : Open) (done : Table) (old new : Contents) (entries : List Entry) (current : Open) (holders : List Open) : Type 0 where
+pub record Running (src : Sections) (first : Open) (done : Table) (old new : Contents) (entries : List Entry) (current : Open) (holders : List Open) : Type 0 where
   pub extends : Extends old new
   pub ready : IsReady (length src.body) (length new.nodes) entries
   pub is_open : IsOpen src (table_of new.nodes entries) entries current
@@ -82,7 +82,7 @@ weaker_all P Q step (m ∷ ms) all = (step m all.0, weaker_all P Q step ms all.1
 
 -- ---- the three turns
 
-module _ (src : Source) (first : Open) (done : Table) (old new : Contents) (entries : List Entry) (current : Open) (holders : List Open) (d : Mention) where
+module _ (src : Sections) (first : Open) (done : Table) (old new : Contents) (entries : List Entry) (current : Open) (holders : List Open) (d : Mention) where
   abbrev now : Table
   now = table_of new.nodes entries
 
@@ -150,7 +150,7 @@ module _ (src : Source) (first : Open) (done : Table) (old new : Contents) (entr
 drop_all : {X : Type 0} (xs : List X) (k : ℕ) → k ≡ length xs → drop k xs ≡ []
 drop_all {X} xs k h = ap (λ (n : ℕ). drop n xs) h ∙ drop-length xs
 
-module _ (src : Source) (first : Open) (done : Table) (old mid new : Contents) (before after : List Entry) (current : Open) (extended : Extends mid new) (ready : IsReady (length src.body) (length new.nodes) after) where
+module _ (src : Sections) (first : Open) (done : Table) (old mid new : Contents) (before after : List Entry) (current : Open) (extended : Extends mid new) (ready : IsReady (length src.body) (length new.nodes) after) where
   abbrev was : Table
   was = table_of mid.nodes before
 
@@ -271,7 +271,7 @@ opens_smaller most inner o os h below fresh few =
 pub last_first : {X : Type 0} (xs : List X) (x : X) → reverse (xs ++ x ∷ []) ≡ x ∷ reverse xs
 last_first xs x = reverse-append xs (x ∷ [])
 
-pub begin_fault : (src : Source) (first : Open) (done : Table) (old new : Contents) (entries : List Entry) (current : Open) (holders : List Open) (d : Mention) (e : ReadFault) (t : Table)
+pub begin_fault : (src : Sections) (first : Open) (done : Table) (old new : Contents) (entries : List Entry) (current : Open) (holders : List Open) (d : Mention) (e : DeclFault) (t : Table)
     → Running src first done old new entries current holders → current.known < length current.mentions.items
     → Begins src (table_of new.nodes entries) entries current.start (slice_index_or current.mentions.items current.known d) (Err e) → Resolves (Err e) t (resumed src first [] done)
 begin_fault src first done old new entries current holders d (Bytes f) t running h begins = stops src first done old new entries current holders d f running h begins
@@ -280,12 +280,12 @@ begin_fault src first done old new entries current holders d OutOfMemory t runni
 
 -- ---- the turns, at the mention that the code has in hand
 
-module _ (src : Source) (first : Open) (done : Table) (old new : Contents) (entries : List Entry) (current : Open) (holders : List Open) (named : Mention)
+module _ (src : Sections) (first : Open) (done : Table) (old new : Contents) (entries : List Entry) (current : Open) (holders : List Open) (named : Mention)
     (is : named ≡ slice_index_or current.mentions.items current.known named) (running : Running src first done old new entries current holders) (h : current.known < length current.mentions.items) where
   abbrev present : Table
   present = table_of new.nodes entries
 
-  begins_at : (r : Result (Option Open) ReadFault) → Begins src present entries current.start named r → Begins src present entries current.start (slice_index_or current.mentions.items current.known named) r
+  begins_at : (r : Result (Option Open) DeclFault) → Begins src present entries current.start named r → Begins src present entries current.start (slice_index_or current.mentions.items current.known named) r
   begins_at r begins = subst (λ (m : Mention). Begins src present entries current.start m r) is begins
 
   pub none_goes_on : (a : Option Open) → a ≡ None → Begins src present entries current.start named (Ok a) → Running src first done old new entries (one_more current) holders
@@ -309,19 +309,19 @@ module _ (src : Source) (first : Open) (done : Table) (old new : Contents) (entr
       (sym (ap reverse is_pushed ∙ last_first (reverse holders) current ∙ ap (λ (os : List Open). current ∷ os) (reverse-reverse holders)))
       (opens_smaller (length src.body) inner current holders h begun.below.0 begun.fresh begun.is_open.few)
 
-  pub fault_resolves : (e : ReadFault) (t : Table) → Begins src present entries current.start named (Err e) → Resolves (Err e) t (resumed src first [] done)
+  pub fault_resolves : (e : DeclFault) (t : Table) → Begins src present entries current.start named (Err e) → Resolves (Err e) t (resumed src first [] done)
   fault_resolves e t begins = begin_fault src first done old new entries current holders named e t running h (begins_at (Err e) begins)
 
 -- beginning adds no node
-pub never_full : (src : Source) (done : Table) (entries : List Entry) (holder : ℕ) (named : Mention) (e : ReadFault) → Begins src done entries holder named (Err e) → e ≡ Nodes → ⊥
+pub never_full : (src : Sections) (done : Table) (entries : List Entry) (holder : ℕ) (named : Mention) (e : DeclFault) → Begins src done entries holder named (Err e) → e ≡ Nodes → ⊥
 never_full src done entries holder named (Bytes f) begins full = absurd cc
 never_full src done entries holder named Nodes begins full = begins
 never_full src done entries holder named OutOfMemory begins full = absurd cc
 
-pub full_is : (r : Result (Unit {0}) ReadFault) (e : ReadFault) → r ≡ Err e → IsErrOf r Nodes → e ≡ Nodes
+pub full_is : (r : Result (Unit {0}) DeclFault) (e : DeclFault) → r ≡ Err e → IsErrOf r Nodes → e ≡ Nodes
 full_is r e is full = ap error_or (sym is ∙ full)
   where
-    error_or : Result (Unit {0}) ReadFault → ReadFault
+    error_or : Result (Unit {0}) DeclFault → DeclFault
     error_or (Ok u) = Nodes
     error_or (Err x) = x
 
@@ -332,22 +332,22 @@ then_done (Ok x) = refl
 then_done (Err f) = refl
 
 -- a descriptor that was just opened comes to what its mention does
-pub begun_is : (src : Source) (done : Table) (entries : List Entry) (holder : ℕ) (named : Mention) (inner : Open) → IsBegun src done entries holder named inner → resumed src inner [] done ≡ resolve src (reads src) holder named done
+pub begun_is : (src : Sections) (done : Table) (entries : List Entry) (holder : ℕ) (named : Mention) (inner : Open) → IsBegun src done entries holder named inner → resumed src inner [] done ≡ resolve src (reads src) holder named done
 begun_is src done entries holder named inner begun =
     bind_same (resolve_all src (reads src) inner.start (drop inner.known inner.mentions.items) done) (λ known. closed src.version (frame_of inner) known >>= λ after. Ok after) (closed src.version (frame_of inner)) (λ known. then_done (closed src.version (frame_of inner) known))
     ∙ ap (λ (k : ℕ). resolve_all src (reads src) inner.start (drop k inner.mentions.items) done >>= closed_by src.version inner.start inner.named (own_shape inner.own)) begun.fresh
     ∙ ap (λ (m : Mention). resolve_all src (reads src) inner.start inner.mentions.items done >>= closed_by src.version inner.start m (own_shape inner.own)) begun.its_mention
     ∙ sym begun.turn
 
-pub resolves_as : (r : Result (Unit {0}) ReadFault) (t : Table) (a b : Result Table ByteFault) → a ≡ b → Resolves r t a → Resolves r t b
+pub resolves_as : (r : Result (Unit {0}) DeclFault) (t : Table) (a b : Result Table ByteFault) → a ≡ b → Resolves r t a → Resolves r t b
 resolves_as r t a b same is = subst (λ (x : Result Table ByteFault). Resolves r t x) same is
 
-pub record Reading (src : Source) (holder : ℕ) (mentions : List Mention) (done : Table) (old new : Contents) (entries : List Entry) (index : ℕ) : Type 0 where
+pub record Reading (src : Sections) (holder : ℕ) (mentions : List Mention) (done : Table) (old new : Contents) (entries : List Entry) (index : ℕ) : Type 0 where
   pub extends : Extends old new
   pub ready : IsReady (length src.body) (length new.nodes) entries
   pub same : resolve_all src (reads src) holder (drop index mentions) (table_of new.nodes entries) ≡ resolve_all src (reads src) holder mentions done
 
-module _ (src : Source) (holder : ℕ) (mentions : List Mention) (done : Table) (old mid : Contents) (before : List Entry) (index : ℕ) (d : Mention) (reading : Reading src holder mentions done old mid before index) (h : index < length mentions) where
+module _ (src : Sections) (holder : ℕ) (mentions : List Mention) (done : Table) (old mid : Contents) (before : List Entry) (index : ℕ) (d : Mention) (reading : Reading src holder mentions done old mid before index) (h : index < length mentions) where
   abbrev mention : Mention
   mention = slice_index_or mentions index d
 
@@ -366,12 +366,12 @@ module _ (src : Source) (holder : ℕ) (mentions : List Mention) (done : Table) 
     same = sym (first_of ∙ ap (λ (r : Result Table ByteFault). r >>= resolve_all src (reads src) holder (drop (index + 1) mentions)) known) ∙ reading.same;
   }
 
-  pub reading_stops : (e : ReadFault) (t : Table) → Resolves (Err e) t (resolve src (reads src) holder mention (table_of mid.nodes before)) → Resolves (Err e) t (resolve_all src (reads src) holder mentions done)
+  pub reading_stops : (e : DeclFault) (t : Table) → Resolves (Err e) t (resolve src (reads src) holder mention (table_of mid.nodes before)) → Resolves (Err e) t (resolve_all src (reads src) holder mentions done)
   reading_stops (Bytes f) t fault = sym reading.same ∙ first_of ∙ ap (λ (r : Result Table ByteFault). r >>= resolve_all src (reads src) holder (drop (index + 1) mentions)) fault
   reading_stops Nodes t fault = tt
   reading_stops OutOfMemory t fault = tt
 
-pub reading_ends : (src : Source) (holder : ℕ) (mentions : List Mention) (done : Table) (old new : Contents) (entries : List Entry) (index : ℕ) → Reading src holder mentions done old new entries index → length mentions ≤ index
+pub reading_ends : (src : Sections) (holder : ℕ) (mentions : List Mention) (done : Table) (old new : Contents) (entries : List Entry) (index : ℕ) → Reading src holder mentions done old new entries index → length mentions ≤ index
     → resolve_all src (reads src) holder mentions done ≡ Ok (table_of new.nodes entries)
 reading_ends src holder mentions done old new entries index reading h =
     sym reading.same ∙ ap (λ (ms : List Mention). resolve_all src (reads src) holder ms (table_of new.nodes entries)) (drop_of_length-le mentions h)

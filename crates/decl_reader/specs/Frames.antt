@@ -5,7 +5,7 @@ use Rattle.wire_bytes.specs.Reading.{◌>>=◌, demand}
 use Rattle.type_terms.specs.Shapes.{retype}
 use Rattle.type_terms.specs.Trees.{tree_of}
 use Rattle.decl_spelling.specs.declared.mention.Mention.{Mention}
-use Rattle.decl_spelling.specs.Source.{Source}
+use Rattle.decl_spelling.specs.Sections.{Sections}
 use Rattle.decl_spelling.specs.Reading.{Ahead, Stopped}
 use Rattle.decl_spelling.specs.Descriptors.{Flat}
 use Rattle.decl_spelling.specs.Tables.{Table, with_block, type_named}
@@ -20,7 +20,7 @@ pub record Frame : Type 0 where
   pub named : Mention
 
 -- what its own bytes came to
-abbrev pub own_of : Source → Result (Flat × Ahead) Stopped → Result (Flat × ℕ) ByteFault
+abbrev pub own_of : Sections → Result (Flat × Ahead) Stopped → Result (Flat × ℕ) ByteFault
 own_of src (Ok x) = Ok (x.0, offset_of src x.1)
 own_of src (Err stopped) = Err stopped.fault
 
@@ -44,6 +44,6 @@ abbrev pub closed : ℕ → Frame → Table → Result Table ByteFault
 closed version f done = closed_by version f.start f.named f.own done
 
 -- what open descriptors still come to, the innermost first
-abbrev pub resume : Source → ReadsBlock → List Frame → Table → Result Table ByteFault
+abbrev pub resume : Sections → ReadsBlock → List Frame → Table → Result Table ByteFault
 resume src read [] done = Ok done
 resume src read (f ∷ fs) done = resolve_all src read f.start f.left done >>= λ known. closed src.version f known >>= λ after. resume src read fs after

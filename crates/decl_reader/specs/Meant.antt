@@ -1,7 +1,7 @@
 -- What stands for the numbers of types in a declaration, and that the parts of one mean the same by two that agree on their types.
 use Rattle.std.specs.Prelude.{◌≡◌, ◌<◌, ℕ, List, [], ◌∷◌, ◌++◌, map, length, true}
 use Rattle.std.specs.List.{AllByRecursion, flat_map}
-use Rattle.code_tables.specs.declared.positions.Pos.{Pos}
+use Rattle.go_values.specs.declared.positions.Pos.{Pos}
 use Rattle.type_terms.specs.declared.descriptors.Node.{Node}
 use Rattle.type_terms.specs.Shapes.{ParamOf, SigOf, FieldOf, MethodOf, TermOf, Shape, instance_of, param_map, sig_map, field_map, method_map, term_map, param_types, sig_types, field_types, method_types, term_types, shape_types, retype}
 use Rattle.type_terms.specs.ShapeLaws.{Agree, type_agrees, sig_agrees, retype_agrees}

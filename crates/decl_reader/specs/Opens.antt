@@ -8,7 +8,7 @@ use Rattle.code_tables.specs.declared.predeclared.Basic.{Basic}
 use Rattle.type_terms.specs.Trees.{Tree, predeclared}
 use Rattle.type_terms.specs.Shapes.{instance_of}
 use Rattle.decl_spelling.specs.declared.mention.Mention.{Mention}
-use Rattle.decl_spelling.specs.Source.{Source}
+use Rattle.decl_spelling.specs.Sections.{Sections}
 use Rattle.decl_spelling.specs.Descriptors.{Flat as Shape}
 use Rattle.decl_spelling.specs.Tables.{Table, Finished}
 use Rattle.decl_spelling.specs.Descent.{ReadsBlock, block_at, resolve, resolve_all, meets, unmet}
@@ -16,8 +16,8 @@ use Rattle.decl_spelling.proofs.NamedTypes.{Kept, IsAnswered}
 use Rattle.decl_spelling.proofs.Took.{ask_of, shape_asks}
 use Rattle.decl_reader.specs.declared.flat.descriptors.Flat.{Flat}
 use Rattle.decl_reader.specs.declared.descent.Open.{Open}
-use Rattle.decl_reader.specs.declared.fault.ReadFault.{ReadFault}
-use Rattle.decl_reader.specs.declared.fault.ReadFault.TheVariants.{Bytes, Nodes, OutOfMemory}
+use Rattle.decl_reader.specs.declared.fault.DeclFault.{DeclFault}
+use Rattle.decl_reader.specs.declared.fault.DeclFault.TheVariants.{Bytes, Nodes, OutOfMemory}
 use Rattle.decl_reader.specs.Shapes.{flat_shape}
 use Rattle.decl_reader.specs.Blocks.{Entry, AllInside, EndsBy, HasRoom, IsStacked, bytes_of}
 use Rattle.decl_reader.specs.Frames.{Frame, closed_by, resume}
@@ -29,7 +29,7 @@ pub record IsReady (limit size : ℕ) (entries : List Entry) : Type 0 where
   pub stacked : IsStacked entries
 
 -- each descriptor of the data section may be read
-abbrev pub reads : Source → ReadsBlock
+abbrev pub reads : Sections → ReadsBlock
 reads src = block_at src (length src.body)
 
 -- the steps that were taken are the bytes that the table got
@@ -37,7 +37,7 @@ abbrev pub Counts : ℕ → List Entry → ℕ → List Entry → Type 0
 Counts steps entries after more = after + bytes_of entries ≡ steps + bytes_of more
 
 -- the table that a call left is what reading gives; want of memory says nothing
-abbrev pub Resolves : Result (Unit {0}) ReadFault → Table → Result Table ByteFault → Type 0
+abbrev pub Resolves : Result (Unit {0}) DeclFault → Table → Result Table ByteFault → Type 0
 Resolves (Ok u) known read = read ≡ Ok known
 Resolves (Err (Bytes f)) known read = read ≡ Err f
 Resolves (Err Nodes) known read = Unit {0}
@@ -74,7 +74,7 @@ EndsBefore (Ok x) offset = x.1 ≤ offset
 EndsBefore (Err f) offset = Unit {0}
 
 -- some of its mentions are known
-pub record IsOpen (src : Source) (done : Table) (entries : List Entry) (o : Open) : Type 0 where
+pub record IsOpen (src : Sections) (done : Table) (entries : List Entry) (o : Open) : Type 0 where
   pub its_start : o.named.value ≡ 32 + o.start
   pub inside : o.start < length src.body
   pub ends : EndsBefore o.own (length src.body)
@@ -88,7 +88,7 @@ abbrev pub IsBelow : Open → ℕ → Type 0
 IsBelow o offset = (o.start < offset) × EndsBefore o.own offset
 
 -- a descriptor that was just opened for a holder, and what reading its types comes to for the mention that named it
-pub record IsBegun (src : Source) (done : Table) (entries : List Entry) (holder : ℕ) (named : Mention) (o : Open) : Type 0 where
+pub record IsBegun (src : Sections) (done : Table) (entries : List Entry) (holder : ℕ) (named : Mention) (o : Open) : Type 0 where
   pub fresh : o.known ≡ 0
   pub its_mention : o.named ≡ named
   pub is_open : IsOpen src done entries o
@@ -96,7 +96,7 @@ pub record IsBegun (src : Source) (done : Table) (entries : List Entry) (holder 
   pub turn : resolve src (reads src) holder named done ≡ (resolve_all src (reads src) o.start o.mentions.items done >>= closed_by src.version o.start named (own_shape o.own))
 
 -- what a mention needs: nothing more, or a descriptor that was opened
-abbrev pub Begins : Source → Table → List Entry → ℕ → Mention → Result (Option Open) ReadFault → Type 0
+abbrev pub Begins : Sections → Table → List Entry → ℕ → Mention → Result (Option Open) DeclFault → Type 0
 Begins src done entries holder named (Ok None) = (resolve src (reads src) holder named done ≡ Ok done) × IsAnswered src done holder named
 Begins src done entries holder named (Ok (Some o)) = IsBegun src done entries holder named o
 Begins src done entries holder named (Err (Bytes f)) = resolve src (reads src) holder named done ≡ Err f
@@ -105,18 +105,18 @@ Begins src done entries holder named (Err OutOfMemory) = Unit {0}
 
 -- A descriptor was closed: it is among the finished ones, which stay, and where it ends at or before an offset it leaves the
 -- room from there on.
-pub record IsClosed (src : Source) (old new : Table) (before after : List Entry) (o : Open) : Type 0 where
+pub record IsClosed (src : Sections) (old new : Table) (before after : List Entry) (o : Open) : Type 0 where
   pub kept : Kept old new
   pub answered : (holder : ℕ) → IsBelow o holder → IsAnswered src new holder o.named
   pub room : (from to : ℕ) → IsBelow o from → HasRoom from to before → HasRoom from to after
 
 -- the open descriptors that hold one, the innermost first: each is reading the mention that named the one before it
-abbrev pub AreHolders : Source → Table → List Entry → Open → List Open → Type 0
+abbrev pub AreHolders : Sections → Table → List Entry → Open → List Open → Type 0
 AreHolders src done entries inner [] = Unit {0}
 AreHolders src done entries inner (o ∷ os) =
     IsOpen src done entries o × (o.known < length o.mentions.items) × (drop o.known o.mentions.items ≡ inner.named ∷ drop (o.known + 1) o.mentions.items) × IsBelow inner o.start × AreHolders src done entries o os
 
-abbrev pub resumed : Source → Open → List Open → Table → Result Table ByteFault
+abbrev pub resumed : Sections → Open → List Open → Table → Result Table ByteFault
 resumed src first holders done = resume src (reads src) (frame_of first ∷ map holder_of holders) done
 
 -- ---- whether a type that is known is what its holder asks for
@@ -132,7 +132,7 @@ abbrev pub checked_finished : ℕ → Mention → Finished → Result (Unit {0})
 checked_finished holder m finished = demand (nat_le finished.end holder) (faults.Range m.at m.value) >>= λ u. checked_type m finished.tree
 
 -- the same of a descriptor that ends at an offset
-pub record IsFinished (src : Source) (old new : Table) (before after : List Entry) (named : Mention) (end : ℕ) : Type 0 where
+pub record IsFinished (src : Sections) (old new : Table) (before after : List Entry) (named : Mention) (end : ℕ) : Type 0 where
   pub kept : Kept old new
   pub answered : (holder : ℕ) → end ≤ holder → IsAnswered src new holder named
   pub room : (from to : ℕ) → end ≤ from → HasRoom from to before → HasRoom from to after

@@ -1,6 +1,6 @@
 -- What the values that are read stand for: the shapes of descriptors, with types by their typeOffs.
 use Rattle.std.specs.Prelude.{ℕ, map}
-use Rattle.code_tables.specs.declared.positions.Pos.{Pos}
+use Rattle.go_values.specs.declared.positions.Pos.{Pos}
 use Rattle.type_terms.specs.Trees.{Text}
 use Rattle.type_terms.specs.Shapes.{FieldOf, MethodOf, TermOf, named_of, parameter_of, alias_of, pointer_of, slice_of, array_of, chan_of, map_of, func_of, struct_of, interface_of, instance_of, union_of}
 use Rattle.decl_spelling.specs.Descriptors.{Flat as Shape, Param as ParamShape, Sig, no_origin}

@@ -2,25 +2,25 @@
 use Rattle.std.specs.Prelude.{◌≡◌, ℕ, ◌+◌, ◌-◌, List, [], Bool, true, false, Result, Ok, Err, Option}
 use Rattle.std.specs.List.{sum_by}
 use Rattle.code_tables.specs.declared.predeclared.Basic.{Basic}
-use Rattle.code_tables.specs.declared.constants.Const.{Const}
+use Rattle.go_values.specs.declared.constants.Const.{Const}
 use Rattle.wire_bytes.specs.declared.fault.ByteFault.{ByteFault}
 use Rattle.wire_bytes.specs.Reading.{place, ◌>>=◌}
 use Rattle.type_terms.specs.declared.descriptors.Node.{Node}
 use Rattle.type_terms.specs.declared.declarations.DeclNode.{DeclNode}
 use Rattle.type_terms.specs.Declarations.{Decl}
 use Rattle.type_terms.specs.Environments.{decl_of}
-use Rattle.decl_spelling.specs.Source.{Source}
+use Rattle.decl_spelling.specs.Sections.{Sections}
 use Rattle.decl_spelling.specs.Reading.{Ahead, list_at}
 use Rattle.decl_spelling.specs.Tables.{Table}
 use Rattle.decl_spelling.specs.Constants.{spelling_at, value_at}
 use Rattle.decl_spelling.specs.Declarations.{Receiver, receiver_at, resolved, fault_alone, Read}
 use Rattle.decl_reader.specs.declared.flat.declarations.DeclParts.{DeclParts}
-use Rattle.decl_reader.specs.declared.fault.ReadFault.{ReadFault}
-use Rattle.decl_reader.specs.declared.fault.ReadFault.TheVariants.{Bytes, Nodes, OutOfMemory}
+use Rattle.decl_reader.specs.declared.fault.DeclFault.{DeclFault}
+use Rattle.decl_reader.specs.declared.fault.DeclFault.TheVariants.{Bytes, Nodes, OutOfMemory}
 use Rattle.decl_reader.specs.Forms.{decl_form}
 
 -- an error that names a fault is what reading gives; want of nodes or memory says nothing
-abbrev pub FaultIs : {X : Type 0} → ReadFault → Result X ByteFault → Type 0
+abbrev pub FaultIs : {X : Type 0} → DeclFault → Result X ByteFault → Type 0
 FaultIs (Bytes f) read = read ≡ Err f
 FaultIs Nodes read = Unit {0}
 FaultIs OutOfMemory read = Unit {0}
@@ -30,39 +30,39 @@ abbrev pub all_known : Ahead → Ahead
 all_known a = record { spot = a.spot; before = a.before; mentions = [] }
 
 -- a part of a declaration, seen by view, what is ahead of it then, and the types that are read then
-abbrev pub IsPart : {X Y : Type 0} → (X → Y) → Result X ReadFault → Ahead → Table → Result ((Y × Ahead) × Table) ByteFault → Type 0
+abbrev pub IsPart : {X Y : Type 0} → (X → Y) → Result X DeclFault → Ahead → Table → Result ((Y × Ahead) × Table) ByteFault → Type 0
 IsPart view (Ok x) ahead known read = read ≡ Ok ((view x, ahead), known)
 IsPart view (Err e) ahead known read = FaultIs e read
 
 -- the methods of a defined type that may have its own
-abbrev pub methods_by : Source → ℕ → Ahead → Table → Bool → Result ((List Receiver × Ahead) × Table) ByteFault
+abbrev pub methods_by : Sections → ℕ → Ahead → Table → Bool → Result ((List Receiver × Ahead) × Table) ByteFault
 methods_by src offset a done true = resolved src offset (list_at (receiver_at src) a) done
 methods_by src offset a done false = Ok (([], a), done)
 
 -- the value of a constant whose type comes down to a predeclared one
-abbrev pub value_by : Source → ℕ → Option Basic → Ahead → Result (Const × Ahead) ByteFault
+abbrev pub value_by : Sections → ℕ → Option Basic → Ahead → Result (Const × Ahead) ByteFault
 value_by src at basic a = spelling_at at basic >>= λ spelling. fault_alone (value_at src spelling a)
 
-abbrev pub IsValue : Result Const ReadFault → Ahead → Result (Const × Ahead) ByteFault → Type 0
+abbrev pub IsValue : Result Const DeclFault → Ahead → Result (Const × Ahead) ByteFault → Type 0
 IsValue (Ok value) ahead read = read ≡ Ok (value, ahead)
 IsValue (Err e) ahead read = FaultIs e read
 
 -- a declaration with types as numbers, what is ahead of it, and the types that it reaches
-abbrev pub IsWhole : Result DeclParts ReadFault → Ahead → Table → Result Read ByteFault → Type 0
+abbrev pub IsWhole : Result DeclParts DeclFault → Ahead → Table → Result Read ByteFault → Type 0
 IsWhole (Ok parts) ahead known read = read ≡ Ok (record { form = decl_form parts; end = place ahead.spot; table = known })
 IsWhole (Err e) ahead known read = FaultIs e read
 
 -- the bytes of the descriptors that a declaration reaches, each once, and its own
-abbrev pub reached : Source → ℕ → Read → ℕ
+abbrev pub reached : Sections → ℕ → Read → ℕ
 reached src offset x = sum_by (λ entry. entry.1.end - entry.0) x.table + (x.end - (src.body_at + offset))
 
 -- a declaration whose types are nodes
-abbrev pub ReadsDecl : Result DeclNode ReadFault → List Node → Result Decl ByteFault → Type 0
+abbrev pub ReadsDecl : Result DeclNode DeclFault → List Node → Result Decl ByteFault → Type 0
 ReadsDecl (Ok node) nodes read = read ≡ Ok (decl_of nodes node)
 ReadsDecl (Err e) nodes read = FaultIs e read
 
 -- what holds of a fault that was met
-abbrev pub IfFault : {X : Type 0} → Result X ReadFault → (ByteFault → Type 0) → Type 0
+abbrev pub IfFault : {X : Type 0} → Result X DeclFault → (ByteFault → Type 0) → Type 0
 IfFault (Ok x) P = Unit {0}
 IfFault (Err (Bytes f)) P = P f
 IfFault (Err Nodes) P = Unit {0}

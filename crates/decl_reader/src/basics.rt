@@ -6,7 +6,7 @@ use code_tables::Basic;
 
 /// Tells to which predeclared type a named type comes down.
 pub trait Basics {
-    ghost use Rattle.decl_spelling.specs.Source.{Basics as Meaning};
+    ghost use Rattle.decl_spelling.specs.Sections.{Basics as Meaning};
 
     /// What it tells of a package's path and a name in that package.
     ghost meaning: { Self → Meaning };

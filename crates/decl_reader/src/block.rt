@@ -1,15 +1,16 @@
 //! The bytes of a block, read one thing at a time.
 
 ghost use Rattle.std.specs.Prelude.{◌≡◌, ◌≤◌};
-ghost use Rattle.position_codec.specs.FileParts.{IsOfFile};
-ghost use Rattle.decl_spelling.specs.Source.{window};
+ghost use Rattle.file_parts.specs.FileParts.{IsOfFile};
+ghost use Rattle.decl_spelling.specs.Sections.{window};
 ghost use Rattle.decl_spelling.specs.Reading.{start, number_at, truth_at, text_at, path_at, pos_at, type_at};
-ghost use Rattle.decl_reader.specs.Calls.{Gives, ahead_of, source_of};
+ghost use Rattle.decl_reader.specs.Calls.{ReadsBlock, ahead_of, sections_of};
 
-use crate::fault::ReadFault;
-use code_tables::{Bytes, Pos};
+use crate::fault::DeclFault;
 use decl_spelling::{Demand, Mention};
-use position_codec::{Parts, PrevPos, read_full};
+use file_parts::Parts;
+use go_values::{Bytes, Pos};
+use position_codec::{PrevPos, read_full};
 use std::alloc::Global;
 use wire_bytes::{ByteFault, Cursor, text_at};
 
@@ -27,7 +28,7 @@ impl<'a> Block<'a> {
         requires sections { IsOfFile parts.now }
         requires order { from ≤ to }
         requires inside { to ≤ parts.now.body_len }
-        ensures { ahead_of result ≡ start (window (source_of parts.now) from to) }
+        ensures { ahead_of result ≡ start (window (sections_of parts.now) from to) }
     {
         let at = parts.body_at as usize;
         Block {
@@ -39,15 +40,15 @@ impl<'a> Block<'a> {
 }
 
 /// The next number.
-pub(crate) fn read_number(block: &mut Block<'_>) -> Result<u64, ReadFault>
-    ensures { Gives (λ n. n) result (ahead_of block.new) (number_at (ahead_of block.old)) }
+pub(crate) fn read_number(block: &mut Block<'_>) -> Result<u64, DeclFault>
+    ensures { ReadsBlock (λ n. n) result (ahead_of block.new) (number_at (ahead_of block.old)) }
 {
     Ok(block.cursor.uvarint()?)
 }
 
 /// The next flag.
-pub(crate) fn read_truth(block: &mut Block<'_>) -> Result<bool, ReadFault>
-    ensures { Gives (λ b. b) result (ahead_of block.new) (truth_at (ahead_of block.old)) }
+pub(crate) fn read_truth(block: &mut Block<'_>) -> Result<bool, DeclFault>
+    ensures { ReadsBlock (λ b. b) result (ahead_of block.new) (truth_at (ahead_of block.old)) }
 {
     Ok(block.cursor.flag()?)
 }
@@ -58,15 +59,15 @@ pub(crate) fn read_text(
     alloc: Global,
     parts: &Parts<'_>,
     block: &mut Block<'_>,
-) -> Result<Bytes, ReadFault>
+) -> Result<Bytes, DeclFault>
     requires { IsOfFile parts.now }
-    ensures { Gives (λ t. t) result (ahead_of block.new) (text_at (source_of parts.now) (ahead_of block.old)) }
+    ensures { ReadsBlock (λ t. t) result (ahead_of block.new) (text_at (sections_of parts.now) (ahead_of block.old)) }
 {
     let at = block.cursor.place() as u64;
     let offset = read_number(block)?;
     match text_at(parts.strings(), offset) {
         Some(text) => Ok(Bytes::from_slice(alloc, text)?),
-        None => Err(ReadFault::Bytes(ByteFault::Range { at, value: offset })),
+        None => Err(DeclFault::Bytes(ByteFault::Range { at, value: offset })),
     }
 }
 
@@ -76,15 +77,15 @@ pub(crate) fn read_path(
     alloc: Global,
     parts: &Parts<'_>,
     block: &mut Block<'_>,
-) -> Result<Bytes, ReadFault>
+) -> Result<Bytes, DeclFault>
     requires { IsOfFile parts.now }
-    ensures { Gives (λ t. t) result (ahead_of block.new) (path_at (source_of parts.now) (ahead_of block.old)) }
+    ensures { ReadsBlock (λ t. t) result (ahead_of block.new) (path_at (sections_of parts.now) (ahead_of block.old)) }
 {
     let at = block.cursor.place() as u64;
     let offset = read_number(block)?;
     match parts.path_at(offset) {
         Some(path) => Ok(Bytes::from_slice(alloc, path)?),
-        None => Err(ReadFault::Bytes(ByteFault::Range { at, value: offset })),
+        None => Err(DeclFault::Bytes(ByteFault::Range { at, value: offset })),
     }
 }
 
@@ -93,17 +94,17 @@ pub(crate) fn read_pos(
     alloc: Global,
     parts: &Parts<'_>,
     block: &mut Block<'_>,
-) -> Result<Pos, ReadFault>
+) -> Result<Pos, DeclFault>
     requires { IsOfFile parts.now }
-    ensures { Gives (λ p. p) result (ahead_of block.new) (pos_at (source_of parts.now) (ahead_of block.old)) }
+    ensures { ReadsBlock (λ p. p) result (ahead_of block.new) (pos_at (sections_of parts.now) (ahead_of block.old)) }
 {
     Ok(read_full(alloc, &mut block.cursor, parts, &mut block.before)?)
 }
 
 /// The number of a type, which is noted with what is asked of it.
 #[tactic(auto, unfolding(decl_spelling::specs::Reading::type_at))]
-pub(crate) fn read_type(block: &mut Block<'_>, asked: Demand) -> Result<u64, ReadFault>
-    ensures { Gives (λ n. n) result (ahead_of block.new) (type_at asked (ahead_of block.old)) }
+pub(crate) fn read_type(block: &mut Block<'_>, asked: Demand) -> Result<u64, DeclFault>
+    ensures { ReadsBlock (λ n. n) result (ahead_of block.new) (type_at asked (ahead_of block.old)) }
 {
     let at = block.cursor.place() as u64;
     let value = read_number(block)?;

@@ -1,15 +1,15 @@
 //! Reading a whole declaration.
 
 ghost use Rattle.std.specs.Prelude.{◌≡◌, ◌+◌, ◌<◌, ◌≤◌, List, [], length, map, IfOk, OnOk, IsErrOf};
-ghost use Rattle.position_codec.specs.FileParts.{IsOfFile, body_of};
+ghost use Rattle.file_parts.specs.FileParts.{IsOfFile, body_of};
 ghost use Rattle.type_terms.specs.Arenas.{AllBelow, Extends};
 ghost use Rattle.type_terms.specs.Declarations.{decl_nodes};
 ghost use Rattle.type_terms.specs.Environments.{IsProperDecl, decl_of};
-ghost use Rattle.decl_spelling.specs.Source.{HoldsBytes, window};
+ghost use Rattle.decl_spelling.specs.Sections.{HoldsBytes, window};
 ghost use Rattle.decl_spelling.specs.Reading.{start};
 ghost use Rattle.decl_spelling.specs.Declarations.{head_at, resolved, after_head, read_at, decl_at, FirstFault};
 ghost use Rattle.decl_spelling.specs.Spelling.{SpellsDecl};
-ghost use Rattle.decl_reader.specs.Calls.{source_of, ahead_of};
+ghost use Rattle.decl_reader.specs.Calls.{sections_of, ahead_of};
 ghost use Rattle.decl_reader.specs.Blocks.{table_of};
 ghost use Rattle.decl_reader.specs.Forms.{head_shape};
 ghost use Rattle.decl_reader.specs.Opens.{IsReady, Counts};
@@ -24,12 +24,12 @@ use crate::block::Block;
 use crate::declaration::constants::read_constant;
 use crate::declaration::methods::read_methods;
 use crate::declaration::parts::know_types;
-use crate::fault::ReadFault;
+use crate::fault::DeclFault;
 use crate::flat::{DeclHead, DeclParts, read_declaration_head};
 use crate::heads::are_bytes;
 use crate::nodes::add_declaration;
 use crate::table::Table;
-use position_codec::Parts;
+use file_parts::Parts;
 use std::alloc::Global;
 use std::sync::ledger::Ledger;
 use steps::Steps;
@@ -49,18 +49,18 @@ pub fn read_decl<B: Basics, L: Ledger>(
     basics: &B,
     arena: &mut Arena,
     steps: &mut Steps<L>,
-) -> Result<DeclNode, ReadFault>
+) -> Result<DeclNode, DeclFault>
     requires of_file { IsOfFile parts.now }
     requires inside { offset < parts.now.body_len }
-    ensures found { IfOk result (λ node. SpellsDecl (source_of parts.now) (B.meaning basics.now) offset (decl_of arena.new.nodes node)) }
-    ensures fault { IfFault result (FirstFault (source_of parts.now) (B.meaning basics.now) offset) }
+    ensures found { IfOk result (λ node. SpellsDecl (sections_of parts.now) (B.meaning basics.now) offset (decl_of arena.new.nodes node)) }
+    ensures fault { IfFault result (FirstFault (sections_of parts.now) (B.meaning basics.now) offset) }
     ensures proper { IfOk result (λ node. IsProperDecl (decl_of arena.new.nodes node)) }
-    ensures exact { ReadsDecl result arena.new.nodes (decl_at (source_of parts.now) (B.meaning basics.now) offset) }
-    ensures counted { IfOk result (λ _. IfOk (read_at (source_of parts.now) (B.meaning basics.now) offset) (λ read. steps.new ≡ steps.old + reached (source_of parts.now) offset read)) }
+    ensures exact { ReadsDecl result arena.new.nodes (decl_at (sections_of parts.now) (B.meaning basics.now) offset) }
+    ensures counted { IfOk result (λ _. IfOk (read_at (sections_of parts.now) (B.meaning basics.now) offset) (λ read. steps.new ≡ steps.old + reached (sections_of parts.now) offset read)) }
     ensures at_most { steps.new ≤ steps.old + parts.now.body_len }
     ensures within { IfOk result (λ node. AllBelow (length arena.new.nodes) (decl_nodes node)) }
     ensures extends { Extends arena.old arena.new }
-    ensures full { IsErrOf result ReadFault.Nodes → length arena.new.nodes ≡ arena.new.limit }
+    ensures full { IsErrOf result DeclFault.Nodes → length arena.new.nodes ≡ arena.new.limit }
 {
     are_bytes(parts.file);
     read_whole(alloc, parts, offset, basics, arena, steps)
@@ -74,16 +74,16 @@ fn read_whole<B: Basics, L: Ledger>(
     basics: &B,
     arena: &mut Arena,
     steps: &mut Steps<L>,
-) -> Result<DeclNode, ReadFault>
+) -> Result<DeclNode, DeclFault>
     requires of_file { IsOfFile parts.now }
-    requires bytes { HoldsBytes (source_of parts.now) }
+    requires bytes { HoldsBytes (sections_of parts.now) }
     requires inside { offset < parts.now.body_len }
-    ensures exact { ReadsDecl result arena.new.nodes (decl_at (source_of parts.now) (B.meaning basics.now) offset) }
-    ensures counted { IfOk result (λ _. IfOk (read_at (source_of parts.now) (B.meaning basics.now) offset) (λ read. steps.new ≡ steps.old + reached (source_of parts.now) offset read)) }
+    ensures exact { ReadsDecl result arena.new.nodes (decl_at (sections_of parts.now) (B.meaning basics.now) offset) }
+    ensures counted { IfOk result (λ _. IfOk (read_at (sections_of parts.now) (B.meaning basics.now) offset) (λ read. steps.new ≡ steps.old + reached (sections_of parts.now) offset read)) }
     ensures at_most { steps.new ≤ steps.old + parts.now.body_len }
     ensures within { IfOk result (λ node. AllBelow (length arena.new.nodes) (decl_nodes node)) }
     ensures extends { Extends arena.old arena.new }
-    ensures full { IsErrOf result ReadFault.Nodes → length arena.new.nodes ≡ arena.new.limit }
+    ensures full { IsErrOf result DeclFault.Nodes → length arena.new.nodes ≡ arena.new.limit }
 {
     let mut table = Table::new(alloc);
     let mut block = Block::new(alloc, parts, offset, parts.body_len);
@@ -105,29 +105,29 @@ fn read_head_types<L: Ledger>(
     table: &mut Table,
     arena: &mut Arena,
     steps: &mut Steps<L>,
-) -> Result<DeclHead, ReadFault>
+) -> Result<DeclHead, DeclFault>
     requires of_file { IsOfFile parts.now }
-    requires bytes { HoldsBytes (source_of parts.now) }
+    requires bytes { HoldsBytes (sections_of parts.now) }
     requires ready { IsReady (length (body_of parts.now)) (length arena.old.nodes) table.old.blocks.entries }
     requires within { offset ≤ parts.now.body_len }
-    ensures exact { IsPart head_shape result (ahead_of block.new) (table_of arena.new.nodes table.new.blocks.entries) (resolved (source_of parts.now) offset (head_at (source_of parts.now) (ahead_of block.old)) (table_of arena.old.nodes table.old.blocks.entries)) }
+    ensures exact { IsPart head_shape result (ahead_of block.new) (table_of arena.new.nodes table.new.blocks.entries) (resolved (sections_of parts.now) offset (head_at (sections_of parts.now) (ahead_of block.old)) (table_of arena.old.nodes table.old.blocks.entries)) }
     ensures extends { Extends arena.old arena.new }
     ensures ready { IsReady (length (body_of parts.now)) (length arena.new.nodes) table.new.blocks.entries }
     ensures counted { Counts steps.old table.old.blocks.entries steps.new table.new.blocks.entries }
-    ensures full { IsErrOf result ReadFault.Nodes → length arena.new.nodes ≡ arena.new.limit }
+    ensures full { IsErrOf result DeclFault.Nodes → length arena.new.nodes ≡ arena.new.limit }
 {
     match read_declaration_head(alloc, parts, block) {
         Ok(head) => {
             know_types(alloc, parts, offset, block, table, arena, steps)?;
             Ok(head)
         }
-        Err(ReadFault::Bytes(fault)) => {
+        Err(DeclFault::Bytes(fault)) => {
             // A fault of the types that stand before it comes first.
             know_types(alloc, parts, offset, block, table, arena, steps)?;
-            Err(ReadFault::Bytes(fault))
+            Err(DeclFault::Bytes(fault))
         }
         // Reading bytes adds no node.
-        Err(ReadFault::Nodes | ReadFault::OutOfMemory) => Err(ReadFault::OutOfMemory),
+        Err(DeclFault::Nodes | DeclFault::OutOfMemory) => Err(DeclFault::OutOfMemory),
     }
 }
 
@@ -142,16 +142,16 @@ fn read_rest<B: Basics, L: Ledger>(
     table: &mut Table,
     arena: &mut Arena,
     steps: &mut Steps<L>,
-) -> Result<DeclParts, ReadFault>
+) -> Result<DeclParts, DeclFault>
     requires of_file { IsOfFile parts.now }
-    requires bytes { HoldsBytes (source_of parts.now) }
+    requires bytes { HoldsBytes (sections_of parts.now) }
     requires ready { IsReady (length (body_of parts.now)) (length arena.old.nodes) table.old.blocks.entries }
     requires within { offset ≤ parts.now.body_len }
-    ensures exact { IsWhole result (ahead_of block.new) (table_of arena.new.nodes table.new.blocks.entries) (after_head (source_of parts.now) (B.meaning basics.now) offset (head_shape head) (ahead_of block.old) (table_of arena.old.nodes table.old.blocks.entries)) }
+    ensures exact { IsWhole result (ahead_of block.new) (table_of arena.new.nodes table.new.blocks.entries) (after_head (sections_of parts.now) (B.meaning basics.now) offset (head_shape head) (ahead_of block.old) (table_of arena.old.nodes table.old.blocks.entries)) }
     ensures extends { Extends arena.old arena.new }
     ensures ready { IsReady (length (body_of parts.now)) (length arena.new.nodes) table.new.blocks.entries }
     ensures counted { Counts steps.old table.old.blocks.entries steps.new table.new.blocks.entries }
-    ensures full { IsErrOf result ReadFault.Nodes → length arena.new.nodes ≡ arena.new.limit }
+    ensures full { IsErrOf result DeclFault.Nodes → length arena.new.nodes ≡ arena.new.limit }
 {
     match head {
         DeclHead::Whole(parts) => Ok(parts),

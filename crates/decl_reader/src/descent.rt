@@ -6,9 +6,9 @@ ghost use Rattle.type_terms.specs.Arenas.{Extends};
 ghost use Rattle.decl_spelling.specs.Tables.{at};
 ghost use Rattle.decl_spelling.specs.Codes.{basic_of};
 ghost use Rattle.decl_spelling.specs.Descent.{resolve, resolve_all, named_at as renamed};
-ghost use Rattle.position_codec.specs.FileParts.{IsOfFile, body_of};
-ghost use Rattle.decl_reader.specs.Calls.{source_of};
-ghost use Rattle.decl_spelling.specs.Source.{HoldsBytes};
+ghost use Rattle.file_parts.specs.FileParts.{IsOfFile, body_of};
+ghost use Rattle.decl_reader.specs.Calls.{sections_of};
+ghost use Rattle.decl_spelling.specs.Sections.{HoldsBytes};
 ghost use Rattle.type_terms.specs.declared.descriptors.Node.{Node};
 ghost use Rattle.type_terms.specs.Denotation.{tree};
 ghost use Rattle.decl_reader.specs.Blocks.{table_of, finished_of, IsStacked, HasRoom};
@@ -20,12 +20,12 @@ ghost use Rattle.decl_reader.specs.Opens.{reads, frame_of, IsReady, Counts, IsOp
 use crate::block::Block;
 use crate::codes::basic_of;
 use crate::demands::{basic_meets, node_meets, out_of_range, unmet};
-use crate::fault::ReadFault;
+use crate::fault::DeclFault;
 use crate::flat::{Flat, read_flat};
 use crate::nodes::add_flat;
 use crate::table::{Finished, Table};
 use decl_spelling::Mention;
-use position_codec::Parts;
+use file_parts::Parts;
 use std::alloc::Global;
 use std::sync::ledger::Ledger;
 use steps::Steps;
@@ -54,16 +54,16 @@ pub(crate) fn read_types<L: Ledger>(
     table: &mut Table,
     arena: &mut Arena,
     steps: &mut Steps<L>,
-) -> Result<(), ReadFault>
+) -> Result<(), DeclFault>
     requires sections { IsOfFile parts.now }
-    requires bytes { HoldsBytes (source_of parts.now) }
+    requires bytes { HoldsBytes (sections_of parts.now) }
     requires ready { IsReady (length (body_of parts.now)) (length arena.old.nodes) table.old.blocks.entries }
     requires within { holder ≤ parts.now.body_len }
-    ensures exact { Resolves result (table_of arena.new.nodes table.new.blocks.entries) (resolve_all (source_of parts.now) (reads (source_of parts.now)) holder mentions.now (table_of arena.old.nodes table.old.blocks.entries)) }
+    ensures exact { Resolves result (table_of arena.new.nodes table.new.blocks.entries) (resolve_all (sections_of parts.now) (reads (sections_of parts.now)) holder mentions.now (table_of arena.old.nodes table.old.blocks.entries)) }
     ensures extends { Extends arena.old arena.new }
     ensures ready { IsReady (length (body_of parts.now)) (length arena.new.nodes) table.new.blocks.entries }
     ensures counted { Counts steps.old table.old.blocks.entries steps.new table.new.blocks.entries }
-    ensures full { IsErrOf result ReadFault.Nodes → length arena.new.nodes ≡ arena.new.limit }
+    ensures full { IsErrOf result DeclFault.Nodes → length arena.new.nodes ≡ arena.new.limit }
 {
     for mention in mentions {
         read_type(alloc, parts, holder, *mention, table, arena, steps)?;
@@ -80,16 +80,16 @@ fn read_type<L: Ledger>(
     table: &mut Table,
     arena: &mut Arena,
     steps: &mut Steps<L>,
-) -> Result<(), ReadFault>
+) -> Result<(), DeclFault>
     requires sections { IsOfFile parts.now }
-    requires bytes { HoldsBytes (source_of parts.now) }
+    requires bytes { HoldsBytes (sections_of parts.now) }
     requires ready { IsReady (length (body_of parts.now)) (length arena.old.nodes) table.old.blocks.entries }
     requires within { holder ≤ parts.now.body_len }
-    ensures exact { Resolves result (table_of arena.new.nodes table.new.blocks.entries) (resolve (source_of parts.now) (reads (source_of parts.now)) holder named (table_of arena.old.nodes table.old.blocks.entries)) }
+    ensures exact { Resolves result (table_of arena.new.nodes table.new.blocks.entries) (resolve (sections_of parts.now) (reads (sections_of parts.now)) holder named (table_of arena.old.nodes table.old.blocks.entries)) }
     ensures extends { Extends arena.old arena.new }
     ensures ready { IsReady (length (body_of parts.now)) (length arena.new.nodes) table.new.blocks.entries }
     ensures counted { Counts steps.old table.old.blocks.entries steps.new table.new.blocks.entries }
-    ensures full { IsErrOf result ReadFault.Nodes → length arena.new.nodes ≡ arena.new.limit }
+    ensures full { IsErrOf result DeclFault.Nodes → length arena.new.nodes ≡ arena.new.limit }
 {
     match begin(alloc, parts, holder, named, table, arena)? {
         Some(first) => read_open(alloc, parts, first, table, arena, steps),
@@ -105,16 +105,16 @@ fn read_open<L: Ledger>(
     table: &mut Table,
     arena: &mut Arena,
     steps: &mut Steps<L>,
-) -> Result<(), ReadFault>
+) -> Result<(), DeclFault>
     requires sections { IsOfFile parts.now }
-    requires bytes { HoldsBytes (source_of parts.now) }
+    requires bytes { HoldsBytes (sections_of parts.now) }
     requires ready { IsReady (length (body_of parts.now)) (length arena.old.nodes) table.old.blocks.entries }
-    requires first { IsOpen (source_of parts.now) (table_of arena.old.nodes table.old.blocks.entries) table.old.blocks.entries first }
-    ensures exact { Resolves result (table_of arena.new.nodes table.new.blocks.entries) (resumed (source_of parts.now) first [] (table_of arena.old.nodes table.old.blocks.entries)) }
+    requires first { IsOpen (sections_of parts.now) (table_of arena.old.nodes table.old.blocks.entries) table.old.blocks.entries first }
+    ensures exact { Resolves result (table_of arena.new.nodes table.new.blocks.entries) (resumed (sections_of parts.now) first [] (table_of arena.old.nodes table.old.blocks.entries)) }
     ensures extends { Extends arena.old arena.new }
     ensures ready { IsReady (length (body_of parts.now)) (length arena.new.nodes) table.new.blocks.entries }
     ensures counted { Counts steps.old table.old.blocks.entries steps.new table.new.blocks.entries }
-    ensures full { IsErrOf result ReadFault.Nodes → length arena.new.nodes ≡ arena.new.limit }
+    ensures full { IsErrOf result DeclFault.Nodes → length arena.new.nodes ≡ arena.new.limit }
 {
     let mut holders: Vec<Open> = Vec::new(alloc);
     let mut current = first;
@@ -149,12 +149,12 @@ fn begin(
     named: Mention,
     table: &Table,
     arena: &Arena,
-) -> Result<Option<Open>, ReadFault>
+) -> Result<Option<Open>, DeclFault>
     requires sections { IsOfFile parts.now }
-    requires bytes { HoldsBytes (source_of parts.now) }
+    requires bytes { HoldsBytes (sections_of parts.now) }
     requires ready { IsReady (length (body_of parts.now)) (length arena.now.nodes) table.now.blocks.entries }
     requires within { holder ≤ parts.now.body_len }
-    ensures { Begins (source_of parts.now) (table_of arena.now.nodes table.now.blocks.entries) table.now.blocks.entries holder named result }
+    ensures { Begins (sections_of parts.now) (table_of arena.now.nodes table.now.blocks.entries) table.now.blocks.entries holder named result }
 {
     if named.value < 32 {
         check_basic(parts.version, named)?;
@@ -162,7 +162,7 @@ fn begin(
     }
     let start = named.value - 32;
     if start >= holder {
-        return Err(ReadFault::Bytes(out_of_range(named)));
+        return Err(DeclFault::Bytes(out_of_range(named)));
     }
     match table.at(start) {
         Some(finished) => {
@@ -218,23 +218,23 @@ fn open_at(
     holder: u64,
     named: Mention,
     table: &Table,
-) -> Result<Open, ReadFault>
+) -> Result<Open, DeclFault>
     requires sections { IsOfFile parts.now }
-    requires bytes { HoldsBytes (source_of parts.now) }
+    requires bytes { HoldsBytes (sections_of parts.now) }
     requires stacked { IsStacked table.now.blocks.entries }
     requires large { 32 ≤ named.value }
     requires before { named.value - 32 < holder }
     requires within { holder ≤ parts.now.body_len }
-    ensures begun { IfOk result (λ o. (nodes : List Node) → at (table_of nodes table.now.blocks.entries) (named.value - 32) ≡ None → IsBegun (source_of parts.now) (table_of nodes table.now.blocks.entries) table.now.blocks.entries holder named o) }
-    ensures only_memory { IfErr result (λ e. e ≡ ReadFault.OutOfMemory) }
+    ensures begun { IfOk result (λ o. (nodes : List Node) → at (table_of nodes table.now.blocks.entries) (named.value - 32) ≡ None → IsBegun (sections_of parts.now) (table_of nodes table.now.blocks.entries) table.now.blocks.entries holder named o) }
+    ensures only_memory { IfErr result (λ e. e ≡ DeclFault.OutOfMemory) }
 {
     let start = named.value - 32;
     let mut block = Block::new(alloc, parts, start, table.free_to(start, holder));
     let own = match read_flat(alloc, parts, &mut block) {
         Ok(flat) => Ok((flat, block.cursor.place() as u64 - parts.body_at)),
-        Err(ReadFault::Bytes(fault)) => Err(fault),
+        Err(DeclFault::Bytes(fault)) => Err(fault),
         // Reading bytes adds no node.
-        Err(ReadFault::Nodes | ReadFault::OutOfMemory) => return Err(ReadFault::OutOfMemory),
+        Err(DeclFault::Nodes | DeclFault::OutOfMemory) => return Err(DeclFault::OutOfMemory),
     };
     Ok(Open {
         start,
@@ -253,18 +253,18 @@ fn close<L: Ledger>(
     table: &mut Table,
     arena: &mut Arena,
     steps: &mut Steps<L>,
-) -> Result<(), ReadFault>
+) -> Result<(), DeclFault>
     requires sections { IsOfFile parts.now }
-    requires bytes { HoldsBytes (source_of parts.now) }
+    requires bytes { HoldsBytes (sections_of parts.now) }
     requires ready { IsReady (length (body_of parts.now)) (length arena.old.nodes) table.old.blocks.entries }
-    requires is_open { IsOpen (source_of parts.now) (table_of arena.old.nodes table.old.blocks.entries) table.old.blocks.entries block }
+    requires is_open { IsOpen (sections_of parts.now) (table_of arena.old.nodes table.old.blocks.entries) table.old.blocks.entries block }
     requires all { block.known ≡ length block.mentions.items }
     ensures exact { Resolves result (table_of arena.new.nodes table.new.blocks.entries) (closed parts.now.version (frame_of block) (table_of arena.old.nodes table.old.blocks.entries)) }
-    ensures closed { OnOk result (IsClosed (source_of parts.now) (table_of arena.old.nodes table.old.blocks.entries) (table_of arena.new.nodes table.new.blocks.entries) table.old.blocks.entries table.new.blocks.entries block) }
+    ensures closed { OnOk result (IsClosed (sections_of parts.now) (table_of arena.old.nodes table.old.blocks.entries) (table_of arena.new.nodes table.new.blocks.entries) table.old.blocks.entries table.new.blocks.entries block) }
     ensures extends { Extends arena.old arena.new }
     ensures ready { IsReady (length (body_of parts.now)) (length arena.new.nodes) table.new.blocks.entries }
     ensures counted { Counts steps.old table.old.blocks.entries steps.new table.new.blocks.entries }
-    ensures full { IsErrOf result ReadFault.Nodes → length arena.new.nodes ≡ arena.new.limit }
+    ensures full { IsErrOf result DeclFault.Nodes → length arena.new.nodes ≡ arena.new.limit }
 {
     let Open {
         start,
@@ -274,7 +274,7 @@ fn close<L: Ledger>(
     } = block;
     match own {
         Ok((flat, end)) => finish(alloc, parts, start, named, flat, end, table, arena, steps),
-        Err(fault) => Err(ReadFault::Bytes(named_at(named, fault))),
+        Err(fault) => Err(DeclFault::Bytes(named_at(named, fault))),
     }
 }
 
@@ -289,7 +289,7 @@ fn finish<L: Ledger>(
     table: &mut Table,
     arena: &mut Arena,
     steps: &mut Steps<L>,
-) -> Result<(), ReadFault>
+) -> Result<(), DeclFault>
     requires ready { IsReady (length (body_of parts.now)) (length arena.old.nodes) table.old.blocks.entries }
     requires generic { IsGenericFlat parts.now.version (table_of arena.old.nodes table.old.blocks.entries) (flat_shape flat) }
     requires its_start { named.value ≡ 32 + start }
@@ -297,11 +297,11 @@ fn finish<L: Ledger>(
     requires inside { end ≤ length (body_of parts.now) }
     requires room { HasRoom start end table.old.blocks.entries }
     ensures exact { Resolves result (table_of arena.new.nodes table.new.blocks.entries) (answered parts.now.version named (with_shape parts.now.version start (flat_shape flat, end) (table_of arena.old.nodes table.old.blocks.entries))) }
-    ensures finished { OnOk result (IsFinished (source_of parts.now) (table_of arena.old.nodes table.old.blocks.entries) (table_of arena.new.nodes table.new.blocks.entries) table.old.blocks.entries table.new.blocks.entries named end) }
+    ensures finished { OnOk result (IsFinished (sections_of parts.now) (table_of arena.old.nodes table.old.blocks.entries) (table_of arena.new.nodes table.new.blocks.entries) table.old.blocks.entries table.new.blocks.entries named end) }
     ensures extends { Extends arena.old arena.new }
     ensures ready { IsReady (length (body_of parts.now)) (length arena.new.nodes) table.new.blocks.entries }
     ensures counted { Counts steps.old table.old.blocks.entries steps.new table.new.blocks.entries }
-    ensures full { IsErrOf result ReadFault.Nodes → length arena.new.nodes ≡ arena.new.limit }
+    ensures full { IsErrOf result DeclFault.Nodes → length arena.new.nodes ≡ arena.new.limit }
 {
     let node = add_flat(alloc, parts.version, flat, table, arena)?;
     table.insert(start, Finished { end, node })?;

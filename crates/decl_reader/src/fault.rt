@@ -1,17 +1,16 @@
 //! Why a declaration couldn't be read.
 
 ghost use Rattle.std.specs.Prelude.{◌≡◌};
-ghost use Rattle.decl_reader.specs.declared.fault.ReadFault.TheVariants.{Bytes, OutOfMemory};
-ghost use Rattle.decl_reader.specs.Faults.{of_arena, of_position};
+ghost use Rattle.decl_reader.specs.declared.fault.DeclFault.TheVariants.{Bytes, OutOfMemory};
+ghost use Rattle.decl_reader.specs.Faults.{of_arena, of_read};
 
-use position_codec::PosFault;
 use std::alloc::{AllocError, AllocFailed};
 use type_terms::ArenaError;
-use wire_bytes::ByteFault;
+use wire_bytes::{ByteFault, ReadFault};
 
 /// Why a declaration couldn't be read.
 #[derive(Clone, Copy, Debug, PartialEq, Eq)]
-pub enum ReadFault {
+pub enum DeclFault {
     /// Its bytes spell none. This is the first thing that is wrong with them.
     Bytes(ByteFault),
     /// The arena has as many nodes as it may have.
@@ -19,48 +18,48 @@ pub enum ReadFault {
     OutOfMemory,
 }
 
-impl From<ByteFault> for ReadFault {
+impl From<ByteFault> for DeclFault {
     ghost from_gives = { λ f e. e ≡ Bytes f };
 
-    fn from(fault: ByteFault) -> ReadFault {
-        ReadFault::Bytes(fault)
+    fn from(fault: ByteFault) -> DeclFault {
+        DeclFault::Bytes(fault)
     }
 }
 
-impl From<PosFault> for ReadFault {
-    ghost from_gives = { λ f e. e ≡ of_position f };
+impl From<ReadFault> for DeclFault {
+    ghost from_gives = { λ f e. e ≡ of_read f };
 
-    fn from(fault: PosFault) -> ReadFault {
+    fn from(fault: ReadFault) -> DeclFault {
         match fault {
-            PosFault::Bytes(fault) => ReadFault::Bytes(fault),
-            PosFault::OutOfMemory => ReadFault::OutOfMemory,
+            ReadFault::Bytes(fault) => DeclFault::Bytes(fault),
+            ReadFault::OutOfMemory => DeclFault::OutOfMemory,
         }
     }
 }
 
-impl From<AllocError> for ReadFault {
+impl From<AllocError> for DeclFault {
     ghost from_gives = { λ _ e. e ≡ OutOfMemory };
 
-    fn from(_error: AllocError) -> ReadFault {
-        ReadFault::OutOfMemory
+    fn from(_error: AllocError) -> DeclFault {
+        DeclFault::OutOfMemory
     }
 }
 
-impl<T: Drop> From<AllocFailed<T>> for ReadFault {
+impl<T: Drop> From<AllocFailed<T>> for DeclFault {
     ghost from_gives = { λ _ e. e ≡ OutOfMemory };
 
-    fn from(_error: AllocFailed<T>) -> ReadFault {
-        ReadFault::OutOfMemory
+    fn from(_error: AllocFailed<T>) -> DeclFault {
+        DeclFault::OutOfMemory
     }
 }
 
-impl From<ArenaError> for ReadFault {
+impl From<ArenaError> for DeclFault {
     ghost from_gives = { λ f e. e ≡ of_arena f };
 
-    fn from(error: ArenaError) -> ReadFault {
+    fn from(error: ArenaError) -> DeclFault {
         match error {
-            ArenaError::Full => ReadFault::Nodes,
-            ArenaError::OutOfMemory => ReadFault::OutOfMemory,
+            ArenaError::Full => DeclFault::Nodes,
+            ArenaError::OutOfMemory => DeclFault::OutOfMemory,
         }
     }
 }

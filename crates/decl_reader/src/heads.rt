@@ -1,16 +1,16 @@
 //! The head of a declaration of a type: as much of it as leads on to its type's name.
 
 ghost use Rattle.std.specs.Prelude.{◌≡◌, ◌≤◌, ◌<◌, ◌-◌, ℕ, drop, get_or, option_map, IfSome, IfNone};
-ghost use Rattle.position_codec.specs.FileParts.{IsOfFile};
-ghost use Rattle.decl_spelling.specs.Source.{Source};
+ghost use Rattle.file_parts.specs.FileParts.{IsOfFile};
+ghost use Rattle.decl_spelling.specs.Sections.{Sections};
 ghost use Rattle.decl_spelling.specs.Heads.{Lead, IsHead, find_byte, find_number, find_signed, find_text, pass_file, pass_line, pass_position, pass_times, pass_numbers, find_name, name_by, name_at, find_base, type_by, lead_at, lead_of, pass_tparams, head_lead};
 ghost use Rattle.position_codec.specs.Place.{is_odd};
-ghost use Rattle.decl_reader.specs.Calls.{source_of};
+ghost use Rattle.decl_reader.specs.Calls.{sections_of};
 ghost use Rattle.decl_reader.specs.Leads.{Finds, Passes, lead};
 
 use crate::codes::{basic_of, decl_tag_of, type_tag_of};
 use code_tables::{Basic, DeclTag, TypeTag};
-use position_codec::Parts;
+use file_parts::Parts;
 use wire_bytes::{Cursor, text_at};
 
 /// Where the head of a declaration leads.
@@ -28,9 +28,9 @@ pub enum Head<'a> {
 /// its type, and where that type is another one. It takes no memory. docs/FORMAT.md has the rule, "Where a name leads".
 pub fn read_head<'a>(parts: &Parts<'a>, offset: u64) -> Option<Head<'a>>
     requires { IsOfFile parts.now }
-    ensures found { IfSome result (λ head. IsHead (source_of parts.now) offset (lead head)) }
-    ensures none { IfNone result ((lead : Lead) → IsHead (source_of parts.now) offset lead → ⊥) }
-    ensures exact { option_map lead result ≡ head_lead (source_of parts.now) offset }
+    ensures found { IfSome result (λ head. IsHead (sections_of parts.now) offset (lead head)) }
+    ensures none { IfNone result ((lead : Lead) → IsHead (sections_of parts.now) offset lead → ⊥) }
+    ensures exact { option_map lead result ≡ head_lead (sections_of parts.now) offset }
 {
     are_bytes(parts.file);
     lead_from(parts, offset)
@@ -38,7 +38,7 @@ pub fn read_head<'a>(parts: &Parts<'a>, offset: u64) -> Option<Head<'a>>
 
 /// At each offset of a data section there is at most one head, which leads to one place.
 pub fn one_head()
-    ensures { (src : Source) (start : ℕ) (a b : Lead) → IsHead src start a → IsHead src start b → a ≡ b }
+    ensures { (src : Sections) (start : ℕ) (a b : Lead) → IsHead src start a → IsHead src start b → a ≡ b }
 {}
 
 /// Tells a proof what the type of a slice says, which it doesn't know of a slice in a struct behind a reference.
@@ -49,7 +49,7 @@ pub(crate) fn are_bytes(bytes: &[u8])
 #[tactic(auto, unfolding(decl_spelling::specs::Heads::head_lead))]
 fn lead_from<'a>(parts: &Parts<'a>, offset: u64) -> Option<Head<'a>>
     requires { IsOfFile parts.now }
-    ensures { option_map lead result ≡ head_lead (source_of parts.now) offset }
+    ensures { option_map lead result ≡ head_lead (sections_of parts.now) offset }
 {
     let mut cursor = cursor_at(parts, offset);
     let letter = find_byte(&mut cursor)?;
@@ -63,7 +63,7 @@ fn lead_from<'a>(parts: &Parts<'a>, offset: u64) -> Option<Head<'a>>
 /// What is left of the data section at an offset.
 fn cursor_at<'a>(parts: &Parts<'a>, offset: u64) -> Cursor<'a>
     requires { IsOfFile parts.now }
-    ensures { result.left ≡ drop offset (source_of parts.now).body }
+    ensures { result.left ≡ drop offset (sections_of parts.now).body }
 {
     let at = parts.body_at as usize;
     let end = at + parts.body_len as usize;
@@ -178,7 +178,7 @@ fn pass_tparams(kind: DeclTag, cursor: &mut Cursor<'_>) -> Option<()>
 /// Where a typeOff leads.
 fn lead_of<'a>(parts: &Parts<'a>, number: u64) -> Option<Head<'a>>
     requires { IsOfFile parts.now }
-    ensures { option_map lead result ≡ lead_of (source_of parts.now) number }
+    ensures { option_map lead result ≡ lead_of (sections_of parts.now) number }
 {
     if number < 32 {
         let basic = basic_of(parts.version, number)?;
@@ -191,7 +191,7 @@ fn lead_of<'a>(parts: &Parts<'a>, number: u64) -> Option<Head<'a>>
 #[tactic(auto, unfolding(decl_spelling::specs::Heads::lead_at, decl_spelling::specs::Heads::kind_at))]
 fn lead_at<'a>(parts: &Parts<'a>, offset: u64) -> Option<Head<'a>>
     requires { IsOfFile parts.now }
-    ensures { option_map lead result ≡ lead_at (source_of parts.now) offset }
+    ensures { option_map lead result ≡ lead_at (sections_of parts.now) offset }
 {
     let mut cursor = cursor_at(parts, offset);
     let number = find_number(&mut cursor)?;
@@ -207,7 +207,7 @@ fn lead_at<'a>(parts: &Parts<'a>, offset: u64) -> Option<Head<'a>>
 #[tactic(auto, unfolding(decl_spelling::specs::Heads::find_base))]
 fn find_base<'a>(parts: &Parts<'a>, cursor: &mut Cursor<'_>) -> Option<Head<'a>>
     requires { IsOfFile parts.now }
-    ensures { option_map lead result ≡ find_base (source_of parts.now) cursor.old.left }
+    ensures { option_map lead result ≡ find_base (sections_of parts.now) cursor.old.left }
 {
     pass_position(parts.strings(), cursor)?;
     pass_numbers(cursor)?;
@@ -222,7 +222,7 @@ fn find_base<'a>(parts: &Parts<'a>, cursor: &mut Cursor<'_>) -> Option<Head<'a>>
 #[tactic(auto, unfolding(decl_spelling::specs::Heads::name_at, decl_spelling::specs::Heads::kind_at))]
 fn name_at<'a>(parts: &Parts<'a>, offset: u64) -> Option<Head<'a>>
     requires { IsOfFile parts.now }
-    ensures { option_map lead result ≡ name_at (source_of parts.now) offset }
+    ensures { option_map lead result ≡ name_at (sections_of parts.now) offset }
 {
     let mut cursor = cursor_at(parts, offset);
     let number = find_number(&mut cursor)?;
@@ -233,7 +233,7 @@ fn name_at<'a>(parts: &Parts<'a>, offset: u64) -> Option<Head<'a>>
 /// The name in a descriptor of a kind, which is that of a defined type or an alias.
 fn name_by<'a>(parts: &Parts<'a>, kind: TypeTag, cursor: &mut Cursor<'_>) -> Option<Head<'a>>
     requires { IsOfFile parts.now }
-    ensures { option_map lead result ≡ name_by (source_of parts.now) kind cursor.old.left }
+    ensures { option_map lead result ≡ name_by (sections_of parts.now) kind cursor.old.left }
 {
     match kind {
         TypeTag::Defined | TypeTag::Alias => find_name(parts, cursor),
@@ -244,7 +244,7 @@ fn name_by<'a>(parts: &Parts<'a>, kind: TypeTag, cursor: &mut Cursor<'_>) -> Opt
 #[tactic(auto, unfolding(decl_spelling::specs::Heads::find_name))]
 fn find_name<'a>(parts: &Parts<'a>, cursor: &mut Cursor<'_>) -> Option<Head<'a>>
     requires { IsOfFile parts.now }
-    ensures { option_map lead result ≡ find_name (source_of parts.now) cursor.old.left }
+    ensures { option_map lead result ≡ find_name (sections_of parts.now) cursor.old.left }
 {
     let name = find_text(parts.strings(), cursor)?;
     let text = find_text(parts.strings(), cursor)?;

@@ -17,8 +17,5 @@ mod table;
 
 pub use basics::Basics;
 pub use declaration::read_decl;
-pub use fault::ReadFault;
+pub use fault::DeclFault;
 pub use heads::{Head, one_head, read_head};
-
-#[cfg(test)]
-mod tests;

@@ -5,11 +5,11 @@ use Rattle.type_terms.specs.Shapes.{Shape, predeclared_of, named_of, parameter_o
 use Rattle.type_terms.specs.ShapeLaws.{shape_types_map}
 use Rattle.type_terms.specs.Replaced.{all_left, all_right, all_append}
 use Rattle.type_terms.specs.Trees.{Text}
-use Rattle.code_tables.specs.declared.positions.Pos.{Pos}
+use Rattle.go_values.specs.declared.positions.Pos.{Pos}
 use Rattle.decl_spelling.specs.declared.mention.Mention.{Mention}
 use Rattle.decl_spelling.specs.declared.mention.Demand.{Demand}
 use Rattle.decl_spelling.specs.declared.mention.Demand.TheVariants.{Any, Base}
-use Rattle.decl_spelling.specs.Source.{Source}
+use Rattle.decl_spelling.specs.Sections.{Sections}
 use Rattle.decl_spelling.specs.Reading.{Ahead}
 use Rattle.decl_spelling.specs.Descriptors.{Flat}
 use Rattle.decl_spelling.specs.Tables.{Table, type_named}
@@ -25,10 +25,10 @@ asks_from a b asks none went = ap (map ask_of) (went.mentions ∙ ap (λ (ms : L
 
 -- ---- in a table
 
-abbrev pub IsMet : Source → Table → ℕ → Ask → Type 0
+abbrev pub IsMet : Sections → Table → ℕ → Ask → Type 0
 IsMet src done holder ask = IsKnown src done holder ask.0 × (meets ask.1 (type_named src.version done ask.0) ≡ true)
 
-pub mentions_met : (src : Source) (done : Table) (holder : ℕ) (ms : List Mention) (asks : List Ask) → map ask_of ms ≡ asks → AllByRecursion (IsAnswered src done holder) ms → AllByRecursion (IsMet src done holder) asks
+pub mentions_met : (src : Sections) (done : Table) (holder : ℕ) (ms : List Mention) (asks : List Ask) → map ask_of ms ≡ asks → AllByRecursion (IsAnswered src done holder) ms → AllByRecursion (IsMet src done holder) asks
 mentions_met src done holder ms asks same all =
     let each : AllByRecursion (λ m. IsMet src done holder (ask_of m)) ms
     = all_weaker (IsAnswered src done holder) (λ m. IsMet src done holder (ask_of m)) (λ m answered. (answered.0, meets_unplaced m.asked (type_named src.version done m.value) ∙ answered.1)) ms all in
@@ -56,17 +56,17 @@ module _ (P : Ask → Type 0) (Q : ℕ → Type 0) (each : (ask : Ask) → P ask
   shape_all (union_of terms) all = let x : Flat = union_of terms in all_asking Any (shape_types x) all
 
 -- the base of an instance is generic
-pub base_met : (src : Source) (done : Table) (holder : ℕ) (x : Flat) → AllByRecursion (IsMet src done holder) (shape_asks x) → IsInstanceOf (retype (known_as src done) x)
+pub base_met : (src : Sections) (done : Table) (holder : ℕ) (x : Flat) → AllByRecursion (IsMet src done holder) (shape_asks x) → IsInstanceOf (retype (known_as src done) x)
 base_met src done holder (instance_of base args) all = (all_right (IsMet src done holder) (asking Any args) ((base, Base) ∷ []) all).0.1
 base_met src done holder _ all = tt
 
 -- ---- in a relation's table
 
 -- the block's holder may name a type that it asks for
-abbrev pub IsNamed : Source → List Block → ℕ → Ask → Type 0
+abbrev pub IsNamed : Sections → List Block → ℕ → Ask → Type 0
 IsNamed src all holder ask = (x : Known) × Names src all holder x × (x.number ≡ ask.0) × (meets ask.1 x.tree ≡ true)
 
-module _ (src : Source) (all : List Block) (holder : ℕ) where
+module _ (src : Sections) (all : List Block) (holder : ℕ) where
   pub asking_named : (asked : Demand) (xs : List Known) → AllByRecursion (λ x. Names src all holder x × (meets asked x.tree ≡ true)) xs → AllByRecursion (IsNamed src all holder) (asking asked (map number_of xs))
   asking_named asked xs named =
       let N : Ask → Type 0 = IsNamed src all holder in

@@ -1,7 +1,7 @@
 -- The readers of numbers, flags, texts, paths, positions and types.
 use Rattle.std.proofs.Common.{◌≡◌, ℕ, ◌<◌, ◌≤◌, List, [], ◌∷◌, ◌++◌, length, Result, Ok, Err, refl, sym, ap, subst, ◌∙◌, append_assoc, arith, length-append}
 use Rattle.std.proofs.lemmas.List.{append-nil}
-use Rattle.code_tables.specs.declared.positions.Pos.{Pos}
+use Rattle.go_values.specs.declared.positions.Pos.{Pos}
 use Rattle.wire_bytes.specs.declared.fault.ByteFault.{ByteFault}
 use Rattle.wire_bytes.specs.declared.fault.ByteFault.TheVariants as faults
 use Rattle.wire_bytes.specs.Reading.{Spot, place, onward, ◌>>=◌}
@@ -15,11 +15,11 @@ use Rattle.wire_bytes.proofs.Many.{Takes}
 use Rattle.wire_bytes.proofs.Cursors.{uvarint_at_takes, uvarint_at_again}
 use Rattle.position_codec.specs.Place.{Named, pos_of, moved_on}
 use Rattle.position_codec.specs.Position.{position_at}
-use Rattle.position_codec.specs.Paths.{IsPathAt, path_in}
+use Rattle.file_parts.specs.Paths.{IsPathAt, path_in}
 use Rattle.position_codec.proofs.Readings.{position_again}
-use Rattle.position_codec.proofs.PathNames.{path_again, path_takes}
+use Rattle.file_parts.proofs.PathNames.{path_again, path_takes}
 use Rattle.decl_spelling.specs.declared.mention.Demand.{Demand}
-use Rattle.decl_spelling.specs.Source.{Source}
+use Rattle.decl_spelling.specs.Sections.{Sections}
 use Rattle.decl_spelling.specs.Reading.{Ahead, Stopped, onto, plain, placed, number_at, truth_at, text_at, path_at, pos_at, type_at}
 use Rattle.decl_spelling.specs.Grammar.{Here, IsNumber, IsTruth, IsText, IsPath, IsPos}
 use Rattle.decl_spelling.proofs.Took.{unplaced, Fits}
@@ -85,7 +85,7 @@ truth_reads = plain_reads flag_at Flag (λ given. flag_takes) flag_again
 
 -- ---- texts and paths
 
-pub text_reads : (src : Source) → Reads (IsBytes src.strings) (text_at src) (IsText src) nothing
+pub text_reads : (src : Sections) → Reads (IsBytes src.strings) (text_at src) (IsText src) nothing
 unfolding text_at
 text_reads src = judged_reads number_at (λ a offset. faults.Range (place a.spot) offset) (text_in src.strings) give IsNumber (λ text a x b. (x ≡ text) × (b ≡ a)) nothing (IsText src)
     number_reads (give_reads (IsBytes src.strings))
@@ -93,7 +93,7 @@ text_reads src = judged_reads number_at (λ a offset. faults.Range (place a.spot
     (offset, subst (IsNumber a offset) (sym stays.1) number, subst (Text src.strings offset) (sym stays.0) (text_takes src.strings offset text bytes there)))
     (λ a text b stands. record { x = stands.0; v = text; next = b; first = stands.1; judged = text_again src.strings stands.0 text stands.2; second = (refl, refl) })
 
-pub path_reads : (src : Source) → Reads (IsBytes src.strings) (path_at src) (IsPath src) nothing
+pub path_reads : (src : Sections) → Reads (IsBytes src.strings) (path_at src) (IsPath src) nothing
 unfolding path_at
 path_reads src = judged_reads number_at (λ a offset. faults.Range (place a.spot) offset) (path_in src.strings src.own src.paths) give IsNumber (λ path a x b. (x ≡ path) × (b ≡ a)) nothing (IsPath src)
     number_reads (give_reads (IsBytes src.strings))
@@ -103,7 +103,7 @@ path_reads src = judged_reads number_at (λ a offset. faults.Range (place a.spot
 
 -- ---- positions
 
-pub pos_reads : (src : Source) → Reads (IsBytes src.strings) (pos_at src) (IsPos src) nothing
+pub pos_reads : (src : Sections) → Reads (IsBytes src.strings) (pos_at src) (IsPos src) nothing
 pos_reads src = record {
   takes = λ bytes a fits. by bytes a fits (position_at src.strings a.before.place a.spot) refl;
   again = λ a tail x after w le.

@@ -4,12 +4,12 @@ use Rattle.std.specs.List.{AllByRecursion}
 use Rattle.std.proofs.lemmas.Bool.Decides.{eqb_tells}
 use Rattle.std.proofs.lemmas.List.Elements.{recursion_from_All}
 use Rattle.wire_bytes.proofs.Spellings.{IsBytes}
-use Rattle.code_tables.specs.declared.positions.Pos.{Pos}
+use Rattle.go_values.specs.declared.positions.Pos.{Pos}
 use Rattle.type_terms.specs.Shapes.{Shape, shape_types, retype}
 use Rattle.type_terms.specs.ShapeLaws.{shape_types_map, retype_agrees}
 use Rattle.type_terms.specs.Trees.{Text, Level, tree_of}
 use Rattle.decl_spelling.specs.declared.mention.Mention.{Mention}
-use Rattle.decl_spelling.specs.Source.{Source, window}
+use Rattle.decl_spelling.specs.Sections.{Sections, window}
 use Rattle.decl_spelling.specs.Reading.{Ahead, Stopped, start}
 use Rattle.decl_spelling.specs.Descriptors.{Flat, flat_at}
 use Rattle.decl_spelling.specs.Tables.{Finished, Table, at, with_block, free_to, type_named}
@@ -38,18 +38,18 @@ left_length after c tail is = ap (λ (a : Here). length a.left) is ∙ length-ap
 finished_is : (end : ℕ) (b : Block) (read meant : Level) → end ≡ b.end → read ≡ meant → b.tree ≡ tree_of meant → record { end = end; tree = tree_of read } ≡ finished_of b
 finished_is end b read meant same_end same type = λ i. record { end = same_end i; tree = (ap tree_of same ∙ sym type) i }
 
-finish_done : (src : Source) (read : ReadsBlock) (offset : ℕ) (r : Result (Flat × Ahead) Stopped) (x : Flat × Ahead) (done known : Table) → r ≡ Ok x → resolve_all src read offset (x.1).mentions done ≡ Ok known
+finish_done : (src : Sections) (read : ReadsBlock) (offset : ℕ) (r : Result (Flat × Ahead) Stopped) (x : Flat × Ahead) (done known : Table) → r ≡ Ok x → resolve_all src read offset (x.1).mentions done ≡ Ok known
     → finish src read offset r done ≡ Ok (with_block known offset (record { end = offset_of src x.1; tree = tree_of (retype (type_named src.version known) x.0) }))
 finish_done src read offset r x done known is resolved = rw (is, resolved) refl
 
 -- The bytes of a block were read in a window, to its end.
-pub record Reread (src : Source) (b : Block) (to : ℕ) (flat : Flat) : Type 0 where
+pub record Reread (src : Sections) (b : Block) (to : ℕ) (flat : Flat) : Type 0 where
   pub ahead : Ahead
   pub read : flat_at src (start (window src b.start to)) ≡ Ok (flat, ahead)
   pub end : offset_of src ahead ≡ b.end
   pub asked : map ask_of ahead.mentions ≡ shape_asks flat
 
-module _ (src : Source) (strings : IsBytes src.strings) (bytes : IsBytes src.body) (all : List Block) (sound : Sound src all) where
+module _ (src : Sections) (strings : IsBytes src.strings) (bytes : IsBytes src.body) (all : List Block) (sound : Sound src all) where
   -- the types that are known are those that the relation names
   trees_are : (known : Table) (holder : ℕ) (parts : Shape Pos Text Text Known) → Inside src all known → AllByRecursion (Names src all holder) (shape_types parts)
       → AllByRecursion (λ ask. IsKnown src known holder ask.0) (shape_asks (retype number_of parts)) → retype (type_named src.version known) (retype number_of parts) ≡ retype (λ (x : Known). x.tree) parts

@@ -6,7 +6,7 @@ use Rattle.wire_bytes.proofs.Texts.{IsBytes-drop}
 use Rattle.type_terms.specs.Shapes.{retype}
 use Rattle.type_terms.specs.Trees.{tree_of}
 use Rattle.position_codec.specs.Place.{no_place}
-use Rattle.decl_spelling.specs.Source.{Source, window}
+use Rattle.decl_spelling.specs.Sections.{Sections, window}
 use Rattle.decl_spelling.specs.Reading.{Ahead, Stopped, start}
 use Rattle.decl_spelling.specs.Descriptors.{Flat, flat_at}
 use Rattle.decl_spelling.specs.Tables.{Finished, Table, at, with_block, free_to, type_named}
@@ -21,18 +21,18 @@ use Rattle.decl_spelling.proofs.AskedTypes.{asks_from, mentions_met}
 use Rattle.decl_spelling.proofs.TypesTaken.{Fine, Added, ReadsSoundly, all_known}
 use Rattle.decl_spelling.proofs.NewBlocks.{descriptor_some, new_says, more_blocks, block_added}
 
-pub window_fits : (src : Source) (from to : ℕ) → IsBytes src.body → Fits (start (window src from to))
+pub window_fits : (src : Sections) (from to : ℕ) → IsBytes src.body → Fits (start (window src from to))
 window_fits src from to bytes = record { bytes = IsBytes-take (to - from) _ (IsBytes-drop from src.body bytes); line = omega arith; column = omega arith }
 
 -- what stands from an offset on, as a window and what is behind it
-pub here_is : (src : Source) (from to : ℕ) → seen_from (start (window src from to)) (behind src.body from to) ≡ here src from
+pub here_is : (src : Sections) (from to : ℕ) → seen_from (start (window src from to)) (behind src.body from to) ≡ here src from
 here_is src from to = ap (λ (bytes : List ℕ). record { left = bytes; before = no_place }) (part_behind src.body from to)
 
 -- where reading stopped in a window
-pub offset_is : (src : Source) (a : Ahead) (to : ℕ) → a.spot.end ≡ src.body_at + to → length a.spot.left ≤ to → offset_of src a ≡ to - length a.spot.left
+pub offset_is : (src : Sections) (a : Ahead) (to : ℕ) → a.spot.end ≡ src.body_at + to → length a.spot.left ≤ to → offset_of src a ≡ to - length a.spot.left
 offset_is src a to end short = omega arith
 
-module _ (src : Source) (strings : IsBytes src.strings) (bytes : IsBytes src.body) where
+module _ (src : Sections) (strings : IsBytes src.strings) (bytes : IsBytes src.body) where
   finish_takes : (read : ReadsBlock) → ReadsSoundly src read → (offset holder to : ℕ) (done known : Table) → to ≡ free_to offset holder done → offset < holder → holder ≤ length src.body → Fine src done → at done offset ≡ None
       → (r : Result (Flat × Ahead) Stopped) → flat_at src (start (window src offset to)) ≡ r → finish src read offset r done ≡ Ok known
       → Added src holder done known × (f : Finished) × (at known offset ≡ Some f) × (f.end ≤ holder)

@@ -9,7 +9,7 @@ use Rattle.type_terms.specs.Trees.{tree_of}
 use Rattle.decl_spelling.specs.declared.mention.Mention.{Mention}
 use Rattle.decl_spelling.specs.declared.mention.Demand.{Demand}
 use Rattle.decl_spelling.specs.declared.mention.Demand.TheVariants.{Any, Parameter, Underlying, Base, NoParameter, Interface}
-use Rattle.decl_spelling.specs.Source.{Source, window}
+use Rattle.decl_spelling.specs.Sections.{Sections, window}
 use Rattle.decl_spelling.specs.Codes.{basic_of}
 use Rattle.decl_spelling.specs.Reading.{Ahead, Stopped, start}
 use Rattle.decl_spelling.specs.Descriptors.{Flat, flat_at}
@@ -22,7 +22,7 @@ bind_same (Err e) f g same = refl
 
 -- ---- readers that agree below the holder
 
-module _ (src : Source) (p q : ReadsBlock) (holder : ℕ) (agree : (offset : ℕ) (done : Table) → offset < holder → p offset holder done ≡ q offset holder done) where
+module _ (src : Sections) (p q : ReadsBlock) (holder : ℕ) (agree : (offset : ℕ) (done : Table) → offset < holder → p offset holder done ≡ q offset holder done) where
   found_same : (m : Mention) (done : Table) → m.value - 32 < holder → (a : Option Finished) → found_or_read p holder m done a ≡ found_or_read q holder m done a
   found_same m done below (Some finished) = refl
   found_same m done below None = ap (named_at m) (agree (m.value - 32) done below)
@@ -49,7 +49,7 @@ module _ (src : Source) (p q : ReadsBlock) (holder : ℕ) (agree : (offset : ℕ
   finish_same (Err stopped) done = ap (λ (r : Result Table ByteFault). r >>= λ known. Err stopped.fault) (resolve_all_same stopped.mentions done)
 
 -- bounds above the offset give the same
-pub block_same : (src : Source) (n m offset holder : ℕ) (done : Table) → offset < n → offset < m → block_at src n offset holder done ≡ block_at src m offset holder done
+pub block_same : (src : Sections) (n m offset holder : ℕ) (done : Table) → offset < n → offset < m → block_at src n offset holder done ≡ block_at src m offset holder done
 unfolding block_at
 block_same src zero m offset holder done below under = absurd (omega arith)
 block_same src (suc n) zero offset holder done below under = absurd (omega arith)
@@ -57,7 +57,7 @@ block_same src (suc n) (suc m) offset holder done below under =
     finish_same src (block_at src n) (block_at src m) offset (λ inner now inside. block_same src n m inner offset now (omega arith) (omega arith)) (flat_at src (start (window src offset (free_to offset holder done)))) done
 
 -- one step of a descriptor, with the same bound for what is inside
-pub block_opens : (src : Source) (n offset holder : ℕ) (done : Table) → offset < n → block_at src n offset holder done ≡ finish src (block_at src n) offset (flat_at src (start (window src offset (free_to offset holder done)))) done
+pub block_opens : (src : Sections) (n offset holder : ℕ) (done : Table) → offset < n → block_at src n offset holder done ≡ finish src (block_at src n) offset (flat_at src (start (window src offset (free_to offset holder done)))) done
 unfolding block_at
 block_opens src zero offset holder done below = absurd (omega arith)
 block_opens src (suc n) offset holder done below =
@@ -109,7 +109,7 @@ unmet_not_ended m Base = tt
 unmet_not_ended m NoParameter = tt
 unmet_not_ended m (Interface flag) = tt
 
-module _ (src : Source) (read : ReadsBlock) (holder : ℕ) where
+module _ (src : Sections) (read : ReadsBlock) (holder : ℕ) where
   found_not_ended : (m : Mention) (done : Table) (a : Option Finished) → NotEnded (found_or_read read holder m done a)
   found_not_ended m done (Some finished) = then_not_ended (demand (nat_le finished.end holder) (faults.Range m.at m.value)) (λ u. Ok done) (demand_not_ended _ _ tt) (λ u. tt)
   found_not_ended m done None = named_not_ended m (read (m.value - 32) holder done)

@@ -7,7 +7,7 @@ use Rattle.wire_bytes.specs.declared.fault.ByteFault.{ByteFault}
 use Rattle.wire_bytes.proofs.Steps.{done_is}
 use Rattle.wire_bytes.proofs.Spellings.{IsBytes}
 use Rattle.type_terms.specs.Declarations.{form_types, Decl, form_map}
-use Rattle.decl_spelling.specs.Source.{Source, Basics, window, HoldsBytes}
+use Rattle.decl_spelling.specs.Sections.{Sections, Basics, window, HoldsBytes}
 use Rattle.decl_spelling.specs.Codes.{decl_tag_of}
 use Rattle.decl_spelling.specs.Reading.{start, Ahead}
 use Rattle.decl_spelling.specs.Tables.{Table, at}
@@ -35,16 +35,16 @@ are_bytes [] all i = omega arith
 are_bytes (b ∷ bytes) all zero = all.0
 are_bytes (b ∷ bytes) all (suc i) = are_bytes bytes all.1 i
 
-pub strings_are : (src : Source) → HoldsBytes src → IsBytes src.strings
+pub strings_are : (src : Sections) → HoldsBytes src → IsBytes src.strings
 strings_are src holds = are_bytes src.strings holds.0
 
-pub body_is : (src : Source) → HoldsBytes src → IsBytes src.body
+pub body_is : (src : Sections) → HoldsBytes src → IsBytes src.body
 body_is src holds = are_bytes src.body holds.1
 
 -- ---- what needs no reading
 
 -- with more blocks a declaration is spelled as well
-pub spells_more : (src : Source) (basics : Basics) (offset : ℕ) (decl : Decl) (spells : SpellsDecl src basics offset decl) (all : List Block) → Sound src all → ((block : Block) → Contains spells.blocks block → Contains all block)
+pub spells_more : (src : Sections) (basics : Basics) (offset : ℕ) (decl : Decl) (spells : SpellsDecl src basics offset decl) (all : List Block) → Sound src all → ((block : Block) → Contains spells.blocks block → Contains all block)
     → (more : SpellsDecl src basics offset decl) × (more.blocks ≡ all)
 spells_more src basics offset decl spells all sound more = (
   record {
@@ -63,19 +63,19 @@ spells_more src basics offset decl spells all sound more = (
 )
 
 -- two faults of one reading are one
-pub one_fault : (src : Source) (basics : Basics) (offset : ℕ) (a b : ByteFault) → FirstFault src basics offset a → FirstFault src basics offset b → a ≡ b
+pub one_fault : (src : Sections) (basics : Basics) (offset : ℕ) (a b : ByteFault) → FirstFault src basics offset a → FirstFault src basics offset b → a ≡ b
 one_fault src basics offset a b first second = (cc)
 
 -- ---- declarations
 
 -- where the head of a declaration was read, with its types, and what it leads to
-read_done : (src : Source) (basics : Basics) (offset : ℕ) (y : (Head × Ahead) × Table) (x : Read) (d e : Decl) → resolved src offset (head_at src (start (window src offset (length src.body)))) [] ≡ Ok y
+read_done : (src : Sections) (basics : Basics) (offset : ℕ) (y : (Head × Ahead) × Table) (x : Read) (d e : Decl) → resolved src offset (head_at src (start (window src offset (length src.body)))) [] ≡ Ok y
     → after_head src basics offset (y.0).0 (y.0).1 y.1 ≡ Ok x → decl_of src x ≡ e → d ≡ e → (x : Read) × (read_at src basics offset ≡ Ok x) × (decl_of src x ≡ d)
 unfolding read_at
 read_done src basics offset y x d e first leads means meant = (x, next_done (resolved src offset (head_at src (start (window src offset (length src.body)))) []) (λ head. after_head src basics offset (head.0).0 (head.0).1 head.1) y x first leads, means ∙ sym meant)
 
 -- The head of a declaration was read again, but for the place of a typeOff.
-record HeadAgain (src : Source) (offset : ℕ) (parts : KnownForm) (after : Here) : Type 0 where
+record HeadAgain (src : Sections) (offset : ℕ) (parts : KnownForm) (after : Here) : Type 0 where
   head : Head
   ahead : Ahead
   read : head_at src (start (window src offset (length src.body))) ≡ Ok (head, ahead)
@@ -84,7 +84,7 @@ record HeadAgain (src : Source) (offset : ℕ) (parts : KnownForm) (after : Here
   asked : map ask_of ahead.mentions ≡ head_asks (head_of parts)
   fits : Fits (blank ahead)
 
-module _ (src : Source) (basics : Basics) (holds : HoldsBytes src) where
+module _ (src : Sections) (basics : Basics) (holds : HoldsBytes src) where
   -- nothing is behind the window of a declaration
   no_tail : (offset : ℕ) → offset ≤ length src.body → length (behind src.body offset (length src.body)) ≡ 0
   no_tail offset within = omega (arith, behind_length src.body offset (length src.body) within (omega arith))
@@ -159,7 +159,7 @@ module _ (src : Source) (basics : Basics) (holds : HoldsBytes src) where
 
 -- ---- descriptors
 
-module _ (src : Source) (holds : HoldsBytes src) where
+module _ (src : Sections) (holds : HoldsBytes src) where
   -- a block is read by itself, up to the end of the data
   block_read : (all : List Block) → Sound src all → (b : Block) → Contains all b → (known : Table) × (block_at src (length src.body) b.start (length src.body) [] ≡ Ok known) × (at known b.start ≡ Some (finished_of b))
   block_read all sound b has =

@@ -9,7 +9,7 @@ use Rattle.type_terms.specs.Replaced.{all_left, all_right, all_append}
 use Rattle.type_terms.specs.Trees.{Tree}
 use Rattle.type_terms.specs.Declarations.{var_of, function_of, constant_of, defined_of, renamed_of, type_parameter_of, receiver_types, form_map, form_types}
 use Rattle.decl_spelling.specs.declared.mention.Demand.TheVariants.{Any, Parameter, Underlying}
-use Rattle.decl_spelling.specs.Source.{Source, Basics}
+use Rattle.decl_spelling.specs.Sections.{Sections, Basics}
 use Rattle.decl_spelling.specs.Descent.{meets, is_parameter, is_interface}
 use Rattle.decl_spelling.specs.Declarations.{FlatForm, Head, whole, of_type, of_constant, constraint_demand, has_methods}
 use Rattle.decl_spelling.specs.Grammar.{Here}
@@ -32,7 +32,7 @@ head_of (renamed_of pos tparams type) = whole (renamed_of pos (numbers tparams) 
 head_of (type_parameter_of pos implicit bound) = whole (type_parameter_of pos implicit bound.number)
 
 -- what stands behind the head
-abbrev pub IsRest : Source → Basics → Here → KnownForm → Here → Type 0
+abbrev pub IsRest : Sections → Basics → Here → KnownForm → Here → Type 0
 IsRest src basics a (var_of pos type) b = a ≡ b
 IsRest src basics a (function_of pos tparams sig) b = a ≡ b
 IsRest src basics a (constant_of pos type value) b = IsValue src basics type.tree a value b
@@ -44,7 +44,7 @@ tparams_stand : (a : Here) (tparams : List Known) (b : Here) → IsGenericList a
 tparams_stand a [] b stands = stands
 tparams_stand a (t ∷ ts) b stands = stands.0
 
-pub head_stands : (src : Source) (basics : Basics) (a : Here) (parts : KnownForm) (b : Here) → IsForm src basics a parts b → (mid : Here) × IsHeadParts src a (head_of parts) mid × IsRest src basics mid parts b
+pub head_stands : (src : Sections) (basics : Basics) (a : Here) (parts : KnownForm) (b : Here) → IsForm src basics a parts b → (mid : Here) × IsHeadParts src a (head_of parts) mid × IsRest src basics mid parts b
 head_stands src basics a (var_of pos type) b stands = (b, stands, refl)
 head_stands src basics a (function_of pos tparams sig) b stands = (b, (stands.0, stands.1, stands.2, tparams_stand stands.0 tparams stands.1 stands.3, stands.4), refl)
 head_stands src basics a (constant_of pos type value) b stands = (stands.1, (stands.0, stands.2, stands.3), stands.4)
@@ -60,7 +60,7 @@ head_kind _ = refl
 
 -- ---- its types
 
-module _ (src : Source) (all : List Block) (holder : ℕ) where
+module _ (src : Sections) (all : List Block) (holder : ℕ) where
   tparams_named : (a : Here) (tparams : List Known) (b : Here) → IsGenericList a tparams b → AllByRecursion (Names src all holder) tparams → AllByRecursion (IsNamed src all holder) (asking Parameter (numbers tparams))
   tparams_named a [] b stands named = tt
   tparams_named a (t ∷ ts) b stands named =

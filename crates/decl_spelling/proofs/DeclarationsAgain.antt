@@ -1,9 +1,9 @@
 -- A declaration that is spelled is read.
 use Rattle.std.proofs.Common.{◌≡◌, ℕ, ◌≤◌, List, [], ◌∷◌, length, map, Bool, true, false, Result, Ok, Option, Some, refl, sym, ◌∙◌, ap, subst, arith}
 use Rattle.std.specs.List.{flat_map, AllByRecursion}
-use Rattle.code_tables.specs.declared.positions.Pos.{Pos}
+use Rattle.go_values.specs.declared.positions.Pos.{Pos}
 use Rattle.code_tables.specs.declared.predeclared.Basic.{Basic}
-use Rattle.code_tables.specs.declared.constants.Const.{Const}
+use Rattle.go_values.specs.declared.constants.Const.{Const}
 use Rattle.wire_bytes.specs.declared.fault.ByteFault.{ByteFault}
 use Rattle.wire_bytes.specs.Reading.{place, ◌>>=◌}
 use Rattle.wire_bytes.proofs.Spellings.{IsBytes}
@@ -12,7 +12,7 @@ use Rattle.type_terms.specs.EntryLaws.{form_agrees}
 use Rattle.type_terms.specs.Trees.{Text}
 use Rattle.type_terms.specs.Declarations.{ReceiverOf, var_of, function_of, constant_of, defined_of, renamed_of, type_parameter_of, receiver_types, form_types, form_map}
 use Rattle.decl_spelling.specs.declared.mention.Demand.TheVariants.{Any, Parameter, Underlying}
-use Rattle.decl_spelling.specs.Source.{Source, Basics}
+use Rattle.decl_spelling.specs.Sections.{Sections, Basics}
 use Rattle.decl_spelling.specs.Reading.{Ahead, Stopped, list_at}
 use Rattle.decl_spelling.specs.Tables.{Table, type_named}
 use Rattle.decl_spelling.specs.Descent.{resolve_all, block_at}
@@ -64,17 +64,17 @@ constant_is (of_constant p t at) pos type e =
 pub next_done : {A B : Type 0} (r : Result A ByteFault) (f : A → Result B ByteFault) (x : A) (y : B) → r ≡ Ok x → f x ≡ Ok y → (r >>= f) ≡ Ok y
 next_done r f x y is leads = ap (λ r. r >>= f) is ∙ leads
 
-pub resolved_done : {X : Type 0} (src : Source) (offset : ℕ) (r : Result (X × Ahead) Stopped) (x : X × Ahead) (done known : Table) → r ≡ Ok x → resolve_all src (block_at src offset) offset (x.1).mentions done ≡ Ok known
+pub resolved_done : {X : Type 0} (src : Sections) (offset : ℕ) (r : Result (X × Ahead) Stopped) (x : X × Ahead) (done known : Table) → r ≡ Ok x → resolve_all src (block_at src offset) offset (x.1).mentions done ≡ Ok known
     → resolved src offset r done ≡ Ok ((x.0, blank x.1), known)
 resolved_done src offset r x done known is types = rw (is, types) refl
 
 spelling_done : (at : ℕ) (a : Option Basic) (basic : Basic) (spelling : Spelling) → a ≡ Some basic → kind_of basic ≡ spelled spelling → spelling_at at a ≡ Ok spelling
 spelling_done at a basic spelling is kind = rw is (rw kind refl)
 
-known_still_all : (src : Source) (done known : Table) (holder : ℕ) (asks : List Ask) → Kept done known → AllByRecursion (λ ask. IsKnown src done holder ask.0) asks → AllByRecursion (λ ask. IsKnown src known holder ask.0) asks
+known_still_all : (src : Sections) (done known : Table) (holder : ℕ) (asks : List Ask) → Kept done known → AllByRecursion (λ ask. IsKnown src done holder ask.0) asks → AllByRecursion (λ ask. IsKnown src known holder ask.0) asks
 known_still_all src done known holder asks kept = all_weaker (λ ask. IsKnown src done holder ask.0) (λ ask. IsKnown src known holder ask.0) (λ ask. known_still src done known holder ask.0 kept) asks
 
-module _ (src : Source) (basics : Basics) (strings : IsBytes src.strings) (bytes : IsBytes src.body)
+module _ (src : Sections) (basics : Basics) (strings : IsBytes src.strings) (bytes : IsBytes src.body)
     (all : List Block) (sound : Sound src all) (offset : ℕ) (within : offset ≤ length src.body) where
   -- the types that are known are those that the declaration names
   form_is : (known : Table) (parts : KnownForm) → Inside src all known → AllByRecursion (Names src all offset) (form_types parts) → AllByRecursion (λ ask. IsKnown src known offset ask.0) (form_asks (flat_form parts))

@@ -2,7 +2,7 @@
 use Rattle.std.proofs.Common.{◌≡◌, ℕ, ◌≤◌, List, [], ◌∷◌, length, drop, map, All, Bool, true, false, Result, Ok, Err, Option, Some, None, refl, sym, ◌∙◌, ap, subst}
 use Rattle.std.specs.List.{flat_map, AllByRecursion}
 use Rattle.std.proofs.lemmas.List.Elements.{All-from_recursion}
-use Rattle.code_tables.specs.declared.positions.Pos.{Pos}
+use Rattle.go_values.specs.declared.positions.Pos.{Pos}
 use Rattle.code_tables.specs.declared.predeclared.Basic.{Basic}
 use Rattle.code_tables.specs.DeclTag.{decl_tag_code}
 use Rattle.wire_bytes.specs.Reading.{place, ◌>>=◌}
@@ -13,7 +13,7 @@ use Rattle.type_terms.specs.Replaced.{all_left, all_right, all_append}
 use Rattle.type_terms.specs.Trees.{Text, Tree}
 use Rattle.type_terms.specs.Declarations.{constant_of, defined_of, receiver_types, form_types, Decl}
 use Rattle.decl_spelling.specs.declared.mention.Demand.TheVariants.{Any, Parameter, Underlying}
-use Rattle.decl_spelling.specs.Source.{Source, Basics, window}
+use Rattle.decl_spelling.specs.Sections.{Sections, Basics, window}
 use Rattle.decl_spelling.specs.Codes.{decl_tag_of}
 use Rattle.decl_spelling.specs.Reading.{Ahead, Stopped, start, list_at}
 use Rattle.decl_spelling.specs.Tables.{Table, type_named}
@@ -40,7 +40,7 @@ use Rattle.decl_spelling.proofs.Forms.{form_asks, form_all, whole_asks, form_typ
 abbrev pub blank : Ahead → Ahead
 blank a = record { spot = a.spot; before = a.before; mentions = [] }
 
-pub resolved_ok : {X : Type 0} (src : Source) (offset : ℕ) (r : Result (X × Ahead) Stopped) (done : Table) (y : (X × Ahead) × Table) → resolved src offset r done ≡ Ok y
+pub resolved_ok : {X : Type 0} (src : Sections) (offset : ℕ) (r : Result (X × Ahead) Stopped) (done : Table) (y : (X × Ahead) × Table) → resolved src offset r done ≡ Ok y
     → (x : X × Ahead) × (r ≡ Ok x) × (resolve_all src (block_at src offset) offset (x.1).mentions done ≡ Ok y.1) × ((x.0, blank x.1) ≡ y.0)
 resolved_ok src offset (Ok x) done y e =
     let types = bind_ok (resolve_all src (block_at src offset) offset (x.1).mentions done) (λ known. Ok ((x.0, blank x.1), known)) y e in
@@ -63,27 +63,27 @@ pub fault_ok : {X : Type 0} (r : Result X Stopped) (x : X) → fault_alone r ≡
 fault_ok (Ok y) x e = ap (λ z. Ok z) (done_is y x e)
 fault_ok (Err s) x e = absurd (cc)
 
-met_still : (src : Source) (done known : Table) (holder : ℕ) (asks : List Ask) → Kept done known → AllByRecursion (IsMet src done holder) asks → AllByRecursion (IsMet src known holder) asks
+met_still : (src : Sections) (done known : Table) (holder : ℕ) (asks : List Ask) → Kept done known → AllByRecursion (IsMet src done holder) asks → AllByRecursion (IsMet src known holder) asks
 met_still src done known holder asks kept =
     all_weaker (IsMet src done holder) (IsMet src known holder)
     (λ ask met. (known_still src done known holder ask.0 kept met.0, ap (meets ask.1) (named_still src done known holder ask.0 kept met.0) ∙ met.1)) asks
 
-all_meets : (src : Source) (done : Table) (holder : ℕ) (asks : List Ask) → AllByRecursion (IsMet src done holder) asks → AllByRecursion (Meets (type_named src.version done)) asks
+all_meets : (src : Sections) (done : Table) (holder : ℕ) (asks : List Ask) → AllByRecursion (IsMet src done holder) asks → AllByRecursion (Meets (type_named src.version done)) asks
 all_meets src done holder = all_weaker (IsMet src done holder) (Meets (type_named src.version done)) (λ ask met. met.1)
 
-pub fine_none : (src : Source) → Fine src []
+pub fine_none : (src : Sections) → Fine src []
 fine_none src = record { rising = tt; sound = record { each = λ b has. absurd (has_none b has); apart = λ a b has_a has_b. absurd (has_none a has_a) } }
 
 -- ---- a declaration that was read, and its types
 
 -- the byte of the kind, and what is left behind it
-abbrev pub IsBegun : Source → ℕ → List ℕ → Head → Type 0
+abbrev pub IsBegun : Sections → ℕ → List ℕ → Head → Type 0
 IsBegun src offset rest head = (drop offset src.body ≡ decl_tag_code (kind_of_head head) ∷ rest) × (decl_tag_of src.version (decl_tag_code (kind_of_head head)) ≡ Some (kind_of_head head))
 
 abbrev pub parts_at : List ℕ → Here
 parts_at rest = record { left = rest; before = no_place }
 
-module _ (src : Source) (basics : Basics) (offset : ℕ) (done : Table) (fine : Fine src done) (rest : List ℕ) where
+module _ (src : Sections) (basics : Basics) (offset : ℕ) (done : Table) (fine : Fine src done) (rest : List ℕ) where
   abbrev types : ℕ → Tree
   types = type_named src.version done
 
@@ -136,7 +136,7 @@ module _ (src : Source) (basics : Basics) (offset : ℕ) (done : Table) (fine : 
 
 -- ---- a declaration that is read
 
-module _ (src : Source) (basics : Basics) (strings : IsBytes src.strings) (bytes : IsBytes src.body) where
+module _ (src : Sections) (basics : Basics) (strings : IsBytes src.strings) (bytes : IsBytes src.body) where
   module _ (offset : ℕ) (within : offset ≤ length src.body) (rest tail : List ℕ) (a : Ahead) (no_mentions : a.mentions ≡ []) (fits : Fits a) where
     methods_taken : (pos : Pos) (tparams : List ℕ) (underlying : ℕ) (done : Table) (x : Read) → Fine src done → IsBegun src offset rest (of_type pos tparams underlying)
         → IsHeadParts src (parts_at rest) (of_type pos tparams underlying) (seen_from a tail) → AllByRecursion (IsMet src done offset) (head_asks (of_type pos tparams underlying))

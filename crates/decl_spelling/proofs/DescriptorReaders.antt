@@ -13,7 +13,7 @@ use Rattle.type_terms.specs.Trees.{Text}
 use Rattle.type_terms.specs.declared.literals.Dir.{Dir}
 use Rattle.type_terms.specs.Shapes.{TermOf, named_of, parameter_of, alias_of, pointer_of, slice_of, array_of, chan_of, map_of, func_of, struct_of, interface_of, instance_of, union_of}
 use Rattle.decl_spelling.specs.declared.mention.Demand.TheVariants.{Any, Base}
-use Rattle.decl_spelling.specs.Source.{Source}
+use Rattle.decl_spelling.specs.Sections.{Sections}
 use Rattle.decl_spelling.specs.Codes.{type_tag_of, dir_of}
 use Rattle.decl_spelling.specs.Reading.{number_at, text_at, path_at, pos_at, type_at, list_at, some_at}
 use Rattle.decl_spelling.specs.Descriptors.{Flat, Sig, sig_at, field_at, method_at, embedded_at, term_at, qualified_at, element_at, array_at, chan_at, map_at, func_at, struct_at, interface_at, instance_at, union_at, flat_by, flat_at}
@@ -27,12 +27,12 @@ use Rattle.decl_spelling.proofs.CodeLaws.{type_tag_of_takes, dir_takes, dir_agai
 use Rattle.decl_spelling.proofs.FlatReaders.{any_type, sig_asks, sig_reads, Field, field_asks, field_reads, fields_ask, Method, method_asks, method_reads, methods_ask, embedded_reads, singles_ask, term_asks, term_reads, terms_ask, types_of_method}
 
 -- the parts of a descriptor of this kind
-abbrev pub IsOfTag : Source → TypeTag → Here → Flat → Here → Type 0
+abbrev pub IsOfTag : Sections → TypeTag → Here → Flat → Here → Type 0
 IsOfTag src tag a x b = (tag_of x ≡ Some tag) × IsParts src a x b
 
 -- ---- names
 
-module _ (src : Source) (make : Text → Text → Flat) (tag : TypeTag) (its_tag : (name path : Text) → tag_of (make name path) ≡ Some tag) (no_asks : (name path : Text) → [] ≡ shape_asks (make name path))
+module _ (src : Sections) (make : Text → Text → Flat) (tag : TypeTag) (its_tag : (name path : Text) → tag_of (make name path) ≡ Some tag) (no_asks : (name path : Text) → [] ≡ shape_asks (make name path))
     (join : (a : Here) (name path : Text) (b : Here) → IsQualified src a name path b → IsParts src a (make name path) b)
     (split : (a : Here) (x : Flat) (b : Here) → IsOfTag src tag a x b → (name path : Text) × (x ≡ make name path) × IsQualified src a name path b) where
   qualified_reads : Reads (IsBytes src.strings) (qualified_at src make) (IsOfTag src tag) shape_asks
@@ -42,15 +42,15 @@ module _ (src : Source) (make : Text → Text → Flat) (tag : TypeTag) (its_tag
       (λ a name b path c first second. (its_tag name path, join a name path c (b, first, second)))
       (λ a x b w. let s = split a x b w in record { x = s.0; y = s.1; at_y = s.3.0; first = s.3.1; second = s.3.2; made = s.2 })
 
-named_split : (src : Source) (a : Here) (x : Flat) (b : Here) → IsOfTag src Defined a x b → (name path : Text) × (x ≡ named_of name path) × IsQualified src a name path b
+named_split : (src : Sections) (a : Here) (x : Flat) (b : Here) → IsOfTag src Defined a x b → (name path : Text) × (x ≡ named_of name path) × IsQualified src a name path b
 named_split src a (named_of name path) b w = (name, path, refl, w.1)
 named_split src a x b w = absurd (let no = w.0 in cc)
 
-parameter_split : (src : Source) (a : Here) (x : Flat) (b : Here) → IsOfTag src TypeParameter a x b → (name path : Text) × (x ≡ parameter_of name path) × IsQualified src a name path b
+parameter_split : (src : Sections) (a : Here) (x : Flat) (b : Here) → IsOfTag src TypeParameter a x b → (name path : Text) × (x ≡ parameter_of name path) × IsQualified src a name path b
 parameter_split src a (parameter_of name path) b w = (name, path, refl, w.1)
 parameter_split src a x b w = absurd (let no = w.0 in cc)
 
-alias_split : (src : Source) (a : Here) (x : Flat) (b : Here) → IsOfTag src Alias a x b → (name path : Text) × (x ≡ alias_of name path) × IsQualified src a name path b
+alias_split : (src : Sections) (a : Here) (x : Flat) (b : Here) → IsOfTag src Alias a x b → (name path : Text) × (x ≡ alias_of name path) × IsQualified src a name path b
 alias_split src a (alias_of name path) b w = (name, path, refl, w.1)
 alias_split src a x b w = absurd (let no = w.0 in cc)
 
@@ -66,11 +66,11 @@ module _ (make : ℕ → Flat) (T : Here → Flat → Here → Type 0) (its_asks
   unfolding element_at
   element_reads = made_reads
 
-pointer_split : (src : Source) (a : Here) (x : Flat) (b : Here) → IsOfTag src Pointer a x b → (type : ℕ) × (x ≡ pointer_of type) × IsNumber a type b
+pointer_split : (src : Sections) (a : Here) (x : Flat) (b : Here) → IsOfTag src Pointer a x b → (type : ℕ) × (x ≡ pointer_of type) × IsNumber a type b
 pointer_split src a (pointer_of type) b w = (type, refl, w.1)
 pointer_split src a x b w = absurd (let no = w.0 in cc)
 
-slice_split : (src : Source) (a : Here) (x : Flat) (b : Here) → IsOfTag src Slice a x b → (type : ℕ) × (x ≡ slice_of type) × IsNumber a type b
+slice_split : (src : Sections) (a : Here) (x : Flat) (b : Here) → IsOfTag src Slice a x b → (type : ℕ) × (x ≡ slice_of type) × IsNumber a type b
 slice_split src a (slice_of type) b w = (type, refl, w.1)
 slice_split src a x b w = absurd (let no = w.0 in cc)
 
@@ -83,11 +83,11 @@ Behind make a x b = (type : ℕ) × (x ≡ make type) × IsNumber a type b
 behind_reads : {Given : Type 0} (make : ℕ → Flat) → ((type : ℕ) → any_type type ≡ shape_asks (make type)) → Reads Given (λ a. type_at Any a >>= λ type. Ok (make type.0, type.1)) (Behind make) shape_asks
 behind_reads make its_asks = made_reads make (Behind make) its_asks (λ a type b number. (type, refl, number)) (λ a x b w. w)
 
-array_split : (src : Source) (a : Here) (x : Flat) (b : Here) → IsOfTag src Array a x b → (size type : ℕ) × (x ≡ array_of size type) × IsParts src a (array_of size type) b
+array_split : (src : Sections) (a : Here) (x : Flat) (b : Here) → IsOfTag src Array a x b → (size type : ℕ) × (x ≡ array_of size type) × IsParts src a (array_of size type) b
 array_split src a (array_of size type) b w = (size, type, refl, w.1)
 array_split src a x b w = absurd (let no = w.0 in cc)
 
-array_reads : (src : Source) → Reads (IsBytes src.strings) array_at (IsOfTag src Array) shape_asks
+array_reads : (src : Sections) → Reads (IsBytes src.strings) array_at (IsOfTag src Array) shape_asks
 unfolding array_at
 array_reads src =
     tested_reads number_at (λ a n. faults.Range (place a.spot) n) (λ n. nat_lt n (2 ^ 63)) (λ n a. type_at Any a >>= λ type. Ok (array_of n type.0, type.1)) IsNumber (λ n. Behind (array_of n)) shape_asks (IsOfTag src Array)
@@ -95,11 +95,11 @@ array_reads src =
     (λ a n b x c number small w. subst (λ x. IsOfTag src Array a x c) (sym w.1) (refl, (b, number, ltb-true n (2 ^ 63) small, w.2)))
     (λ a x b w. let s = array_split src a x b w in record { x = s.0; next = s.3.0; first = s.3.1; holds = lt-ltb s.0 (2 ^ 63) s.3.2; second = (s.1, s.2, s.3.3) })
 
-chan_split : (src : Source) (a : Here) (x : Flat) (b : Here) → IsOfTag src Chan a x b → (dir : Dir) × (type : ℕ) × (x ≡ chan_of dir type) × IsParts src a (chan_of dir type) b
+chan_split : (src : Sections) (a : Here) (x : Flat) (b : Here) → IsOfTag src Chan a x b → (dir : Dir) × (type : ℕ) × (x ≡ chan_of dir type) × IsParts src a (chan_of dir type) b
 chan_split src a (chan_of dir type) b w = (dir, type, refl, w.1)
 chan_split src a x b w = absurd (let no = w.0 in cc)
 
-chan_reads : (src : Source) → Reads (IsBytes src.strings) chan_at (IsOfTag src Chan) shape_asks
+chan_reads : (src : Sections) → Reads (IsBytes src.strings) chan_at (IsOfTag src Chan) shape_asks
 unfolding chan_at
 chan_reads src =
     judged_reads number_at (λ a n. faults.Tag (place a.spot) n) dir_of (λ dir a. type_at Any a >>= λ type. Ok (chan_of dir type.0, type.1)) IsNumber (λ dir. Behind (chan_of dir)) shape_asks (IsOfTag src Chan)
@@ -109,33 +109,33 @@ chan_reads src =
 
 -- ---- the others
 
-map_split : (src : Source) (a : Here) (x : Flat) (b : Here) → IsOfTag src Map a x b → (key type : ℕ) × (x ≡ map_of key type) × IsParts src a (map_of key type) b
+map_split : (src : Sections) (a : Here) (x : Flat) (b : Here) → IsOfTag src Map a x b → (key type : ℕ) × (x ≡ map_of key type) × IsParts src a (map_of key type) b
 map_split src a (map_of key type) b w = (key, type, refl, w.1)
 map_split src a x b w = absurd (let no = w.0 in cc)
 
-map_reads : (src : Source) → Reads (IsBytes src.strings) map_at (IsOfTag src Map) shape_asks
+map_reads : (src : Sections) → Reads (IsBytes src.strings) map_at (IsOfTag src Map) shape_asks
 unfolding map_at
 map_reads src =
     two_reads (type_at Any) (type_at Any) IsNumber IsNumber any_type any_type map_of (IsOfTag src Map) shape_asks (type_reads Any) (type_reads Any) (λ key type. refl)
     (λ a key b type c first second. (refl, (b, first, second)))
     (λ a x b w. let s = map_split src a x b w in record { x = s.0; y = s.1; at_y = s.3.0; first = s.3.1; second = s.3.2; made = s.2 })
 
-func_split : (src : Source) (a : Here) (x : Flat) (b : Here) → IsOfTag src Signature a x b → (home : Text) × (sig : Sig) × (x ≡ func_of home sig) × IsParts src a (func_of home sig) b
+func_split : (src : Sections) (a : Here) (x : Flat) (b : Here) → IsOfTag src Signature a x b → (home : Text) × (sig : Sig) × (x ≡ func_of home sig) × IsParts src a (func_of home sig) b
 func_split src a (func_of home sig) b w = (home, sig, refl, w.1)
 func_split src a x b w = absurd (let no = w.0 in cc)
 
-func_reads : (src : Source) → Reads (IsBytes src.strings) (func_at src) (IsOfTag src Signature) shape_asks
+func_reads : (src : Sections) → Reads (IsBytes src.strings) (func_at src) (IsOfTag src Signature) shape_asks
 unfolding func_at
 func_reads src =
     two_reads (path_at src) (sig_at src) (IsPath src) (IsSig src) nothing sig_asks func_of (IsOfTag src Signature) shape_asks (path_reads src) (sig_reads src) (λ home sig. refl)
     (λ a home b sig c first second. (refl, (b, first, second)))
     (λ a x b w. let s = func_split src a x b w in record { x = s.0; y = s.1; at_y = s.3.0; first = s.3.1; second = s.3.2; made = s.2 })
 
-struct_split : (src : Source) (a : Here) (x : Flat) (b : Here) → IsOfTag src Struct a x b → (home : Text) × (fields : List Field) × (x ≡ struct_of home fields) × IsParts src a (struct_of home fields) b
+struct_split : (src : Sections) (a : Here) (x : Flat) (b : Here) → IsOfTag src Struct a x b → (home : Text) × (fields : List Field) × (x ≡ struct_of home fields) × IsParts src a (struct_of home fields) b
 struct_split src a (struct_of home fields) b w = (home, fields, refl, w.1)
 struct_split src a x b w = absurd (let no = w.0 in cc)
 
-struct_reads : (src : Source) → Reads (IsBytes src.strings) (struct_at src) (IsOfTag src Struct) shape_asks
+struct_reads : (src : Sections) → Reads (IsBytes src.strings) (struct_at src) (IsOfTag src Struct) shape_asks
 unfolding struct_at
 struct_reads src =
     two_reads (path_at src) (list_at (field_at src)) (IsPath src) (IsList (IsField src)) nothing (flat_map field_asks) struct_of (IsOfTag src Struct) shape_asks
@@ -143,12 +143,12 @@ struct_reads src =
     (λ a home b fields c first second. (refl, (b, first, second)))
     (λ a x b w. let s = struct_split src a x b w in record { x = s.0; y = s.1; at_y = s.3.0; first = s.3.1; second = s.3.2; made = s.2 })
 
-interface_split : (src : Source) (a : Here) (x : Flat) (b : Here) → IsOfTag src Interface a x b
+interface_split : (src : Sections) (a : Here) (x : Flat) (b : Here) → IsOfTag src Interface a x b
     → (home : Text) × (embedded : List ℕ) × (methods : List Method) × (x ≡ interface_of home embedded methods) × IsParts src a (interface_of home embedded methods) b
 interface_split src a (interface_of home embedded methods) b w = (home, embedded, methods, refl, w.1)
 interface_split src a x b w = absurd (let no = w.0 in cc)
 
-interface_reads : (src : Source) → Reads (IsBytes src.strings) (interface_at src) (IsOfTag src Interface) shape_asks
+interface_reads : (src : Sections) → Reads (IsBytes src.strings) (interface_at src) (IsOfTag src Interface) shape_asks
 unfolding interface_at
 interface_reads src =
     three_reads (path_at src) (list_at (embedded_at src)) (λ home b embedded. list_at (method_at src)) (IsPath src) (IsList (IsEmbedded src)) (λ home embedded. IsList (IsMethod src))
@@ -158,11 +158,11 @@ interface_reads src =
     (λ a home b embedded c methods d first second third. (refl, (b, c, first, second, third)))
     (λ a x b w. let s = interface_split src a x b w in record { x = s.0; y = s.1; z = s.2; at_y = s.4.0; at_z = s.4.1; first = s.4.2; second = s.4.3; third = s.4.4; made = s.3 })
 
-instance_split : (src : Source) (a : Here) (x : Flat) (b : Here) → IsOfTag src Instance a x b → (base : ℕ) × (args : List ℕ) × (x ≡ instance_of base args) × IsParts src a (instance_of base args) b
+instance_split : (src : Sections) (a : Here) (x : Flat) (b : Here) → IsOfTag src Instance a x b → (base : ℕ) × (args : List ℕ) × (x ≡ instance_of base args) × IsParts src a (instance_of base args) b
 instance_split src a (instance_of base args) b w = (base, args, refl, w.1)
 instance_split src a x b w = absurd (let no = w.0 in cc)
 
-instance_reads : (src : Source) → Reads (IsBytes src.strings) (instance_at src) (IsOfTag src Instance) shape_asks
+instance_reads : (src : Sections) → Reads (IsBytes src.strings) (instance_at src) (IsOfTag src Instance) shape_asks
 unfolding instance_at
 instance_reads src =
     three_reads (pos_at src) (some_at (type_at Any)) (λ pos b args. type_at Base) (IsPos src) (IsSome (type_at Any) IsNumber any_type) (λ pos args. IsNumber)
@@ -172,11 +172,11 @@ instance_reads src =
     (λ a pos b args c base d first second third. (refl, (pos, b, c, first, second.0, second.1, third)))
     (λ a x b w. let s = instance_split src a x b w in record { x = s.3.0; y = s.1; z = s.0; at_y = s.3.1; at_z = s.3.2; first = s.3.3; second = (s.3.4, s.3.5); third = s.3.6; made = s.2 })
 
-union_split : (src : Source) (a : Here) (x : Flat) (b : Here) → IsOfTag src Union a x b → (terms : List (TermOf ℕ)) × (x ≡ union_of terms) × IsParts src a (union_of terms) b
+union_split : (src : Sections) (a : Here) (x : Flat) (b : Here) → IsOfTag src Union a x b → (terms : List (TermOf ℕ)) × (x ≡ union_of terms) × IsParts src a (union_of terms) b
 union_split src a (union_of terms) b w = (terms, refl, w.1)
 union_split src a x b w = absurd (let no = w.0 in cc)
 
-union_reads : (src : Source) → Reads (IsBytes src.strings) union_at (IsOfTag src Union) shape_asks
+union_reads : (src : Sections) → Reads (IsBytes src.strings) union_at (IsOfTag src Union) shape_asks
 unfolding union_at
 union_reads src =
     one_reads (some_at term_at) (IsSome term_at IsTerm term_asks) (flat_map term_asks) union_of (IsOfTag src Union) shape_asks (some_reads term_at IsTerm term_asks term_reads) terms_ask
@@ -185,7 +185,7 @@ union_reads src =
 
 -- ---- the whole descriptor
 
-pub flat_by_reads : (src : Source) (tag : TypeTag) → Reads (IsBytes src.strings) (flat_by src tag) (IsOfTag src tag) shape_asks
+pub flat_by_reads : (src : Sections) (tag : TypeTag) → Reads (IsBytes src.strings) (flat_by src tag) (IsOfTag src tag) shape_asks
 flat_by_reads src Defined = qualified_reads src named_of Defined (λ name path. refl) (λ name path. refl) (λ a name path b w. w) (named_split src)
 flat_by_reads src Pointer = element_reads pointer_of (IsOfTag src Pointer) (λ type. refl) (λ a type b w. (refl, w)) (pointer_split src)
 flat_by_reads src Slice = element_reads slice_of (IsOfTag src Slice) (λ type. refl) (λ a type b w. (refl, w)) (slice_split src)
@@ -200,7 +200,7 @@ flat_by_reads src Instance = instance_reads src
 flat_by_reads src Union = union_reads src
 flat_by_reads src Alias = qualified_reads src alias_of Alias (λ name path. refl) (λ name path. refl) (λ a name path b w. w) (alias_split src)
 
-pub flat_reads : (src : Source) → Reads (IsBytes src.strings) (flat_at src) (IsDescriptor src) shape_asks
+pub flat_reads : (src : Sections) → Reads (IsBytes src.strings) (flat_at src) (IsDescriptor src) shape_asks
 unfolding flat_at
 flat_reads src =
     judged_reads number_at (λ a n. faults.Tag (place a.spot) n) (type_tag_of src.version) (flat_by src) IsNumber (IsOfTag src) shape_asks (IsDescriptor src) number_reads (flat_by_reads src)

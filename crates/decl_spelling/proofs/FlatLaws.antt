@@ -3,14 +3,14 @@
 use Rattle.std.proofs.Common.{◌≡◌, ℕ, ◌+◌, ◌≤◌, List, [], ◌∷◌, ◌++◌, length, map, Ok, Err, refl, ap, ◌∙◌, arith, length-append}
 use Rattle.std.specs.List.{flat_map}
 use Rattle.std.proofs.lemmas.List.{map-append}
-use Rattle.code_tables.specs.declared.constants.Const.{Const}
+use Rattle.go_values.specs.declared.constants.Const.{Const}
 use Rattle.wire_bytes.specs.Reading.{Spot}
 use Rattle.wire_bytes.proofs.Spellings.{IsBytes}
 use Rattle.type_terms.specs.Shapes.{predeclared_of, named_of, parameter_of, alias_of, pointer_of, slice_of, array_of, chan_of, map_of, func_of, struct_of, interface_of, instance_of, union_of, sig_types}
 use Rattle.decl_spelling.specs.declared.mention.Mention.{Mention}
 use Rattle.decl_spelling.specs.declared.mention.Demand.{Demand}
 use Rattle.decl_spelling.specs.declared.mention.Demand.TheVariants.{Any}
-use Rattle.decl_spelling.specs.Source.{Source}
+use Rattle.decl_spelling.specs.Sections.{Sections}
 use Rattle.decl_spelling.specs.Reading.{Ahead, Stopped, start, list_at}
 use Rattle.decl_spelling.specs.Descriptors.{Flat, flat_at}
 use Rattle.decl_spelling.specs.Constants.{Spelling, value_at}
@@ -30,7 +30,7 @@ start_fits s bytes = record { bytes = bytes; line = omega arith; column = omega 
 
 -- ---- what is read stands there, and its types are named in order
 
-module _ (src : Source) (bytes : IsBytes src.strings) (a : Ahead) (fits : Fits a) where
+module _ (src : Sections) (bytes : IsBytes src.strings) (a : Ahead) (fits : Fits a) where
   pub flat_took : (x : Flat) (b : Ahead) → flat_at src a ≡ Ok (x, b) → Took (IsDescriptor src) shape_asks a x b
   flat_took x b e = took (IsDescriptor src) shape_asks a (flat_at src a) x b ((flat_reads src).takes bytes a fits) e
 
@@ -51,7 +51,7 @@ module _ (src : Source) (bytes : IsBytes src.strings) (a : Ahead) (fits : Fits a
   pub receivers_few : (s : Stopped) → list_at (receiver_at src) a ≡ Err s → Few a s
   receivers_few s e = few (IsList (IsReceiver src)) (λ xs. asking Any (flat_map types_of_receiver xs)) a (list_at (receiver_at src) a) s ((receivers_reads src).takes bytes a fits) e
 
-module _ (src : Source) (spelling : Spelling) (is : IsSpelling spelling) where
+module _ (src : Sections) (spelling : Spelling) (is : IsSpelling spelling) where
   pub value_took : IsBytes src.strings → (a : Ahead) → Fits a → (x : Const) (b : Ahead) → value_at src spelling a ≡ Ok (x, b) → Took (IsValueOf src spelling) (λ x. []) a x b
   value_took bytes a fits x b e = took (IsValueOf src spelling) nothing a (value_at src spelling a) x b ((value_reads src spelling is).takes bytes a fits) e
 
@@ -66,7 +66,7 @@ module _ (src : Source) (spelling : Spelling) (is : IsSpelling spelling) where
 
 -- ---- what stands there is read
 
-module _ (src : Source) where
+module _ (src : Sections) where
   pub flat_again : (a : Ahead) (tail : List ℕ) (x : Flat) (after : Here) → IsDescriptor src (seen_from a tail) x after → length tail ≤ length after.left → Again (flat_at src) a x tail after
   flat_again = (flat_reads src).again
 

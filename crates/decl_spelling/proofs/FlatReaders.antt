@@ -3,12 +3,12 @@ use Rattle.std.proofs.Common.{◌≡◌, ℕ, Bool, false, List, [], ◌∷◌, 
 use Rattle.std.specs.List.{flat_map}
 use Rattle.std.proofs.lemmas.List.{append-nil}
 use Rattle.std.proofs.lemmas.List.Concat.{flat_map_single}
-use Rattle.code_tables.specs.declared.positions.Pos.{Pos}
+use Rattle.go_values.specs.declared.positions.Pos.{Pos}
 use Rattle.wire_bytes.proofs.Spellings.{IsBytes}
 use Rattle.type_terms.specs.Trees.{Text}
 use Rattle.type_terms.specs.Shapes.{FieldOf, MethodOf, TermOf, param_types, sig_types, field_types, method_types, term_types}
 use Rattle.decl_spelling.specs.declared.mention.Demand.TheVariants.{Any}
-use Rattle.decl_spelling.specs.Source.{Source}
+use Rattle.decl_spelling.specs.Sections.{Sections}
 use Rattle.decl_spelling.specs.Reading.{truth_at, text_at, pos_at, type_at, list_at}
 use Rattle.decl_spelling.specs.Descriptors.{Param, Sig, param_at, variadic_at, sig_at, no_origin, field_at, method_at, embedded_at, term_at}
 use Rattle.decl_spelling.specs.Grammar.{IsNumber, IsTruth, IsText, IsPos, IsList, IsParam, IsVariadic, IsSig, IsField, IsMethod, IsEmbedded, IsTerm}
@@ -32,7 +32,7 @@ param_asks x = (x.type, Any) ∷ []
 abbrev pub types_of_param : Param → List ℕ
 types_of_param x = param_types x
 
-pub param_reads : (src : Source) → Reads (IsBytes src.strings) (param_at src) (IsParam src) param_asks
+pub param_reads : (src : Sections) → Reads (IsBytes src.strings) (param_at src) (IsParam src) param_asks
 unfolding param_at
 param_reads src =
     three_reads (pos_at src) (text_at src) (λ pos b name. type_at Any) (IsPos src) (IsText src) (λ pos name. IsNumber) nothing nothing (λ pos name. any_type) make_param (IsParam src) param_asks
@@ -43,7 +43,7 @@ param_reads src =
 params_ask : (xs : List Param) → flat_map param_asks xs ≡ asking Any (flat_map types_of_param xs)
 params_ask xs = asking-flat Any types_of_param xs
 
-variadic_reads : (src : Source) (params : List Param) → Reads (IsBytes src.strings) (variadic_at params) (IsVariadic params) nothing
+variadic_reads : (src : Sections) (params : List Param) → Reads (IsBytes src.strings) (variadic_at params) (IsVariadic params) nothing
 variadic_reads src [] = as_reads (variadic_at []) (λ a x b. (x ≡ false) × (b ≡ a)) (IsVariadic []) nothing (give_reads (IsBytes src.strings) false) (λ a x b w. (w.0, sym w.1)) (λ a x b w. (w.0, sym w.1))
 variadic_reads src (param ∷ params) = truth_reads
 
@@ -53,7 +53,7 @@ make_sig params results variadic = record { params = params; results = results; 
 abbrev pub sig_asks : Sig → List Ask
 sig_asks x = asking Any (sig_types x)
 
-pub sig_reads : (src : Source) → Reads (IsBytes src.strings) (sig_at src) (IsSig src) sig_asks
+pub sig_reads : (src : Sections) → Reads (IsBytes src.strings) (sig_at src) (IsSig src) sig_asks
 unfolding sig_at
 sig_reads src =
     let params = list_reads (param_at src) (IsParam src) param_asks (param_reads src) in
@@ -81,7 +81,7 @@ field_asks x = (x.type, Any) ∷ []
 abbrev pub types_of_field : Field → List ℕ
 types_of_field x = field_types x
 
-pub field_reads : (src : Source) → Reads (IsBytes src.strings) (field_at src) (IsField src) field_asks
+pub field_reads : (src : Sections) → Reads (IsBytes src.strings) (field_at src) (IsField src) field_asks
 unfolding field_at
 field_reads src =
     five_reads (pos_at src) (text_at src) (type_at Any) truth_at (text_at src) (IsPos src) (IsText src) IsNumber IsTruth (IsText src) nothing nothing any_type nothing nothing make_field (IsField src) field_asks
@@ -118,7 +118,7 @@ method_asks x = sig_asks x.sig
 abbrev pub types_of_method : Method → List ℕ
 types_of_method x = method_types x
 
-pub method_reads : (src : Source) → Reads (IsBytes src.strings) (method_at src) (IsMethod src) method_asks
+pub method_reads : (src : Sections) → Reads (IsBytes src.strings) (method_at src) (IsMethod src) method_asks
 unfolding method_at
 method_reads src =
     three_reads (pos_at src) (text_at src) (λ pos b name. sig_at src) (IsPos src) (IsText src) (λ pos name. IsSig src) nothing nothing (λ pos name. sig_asks) make_method (IsMethod src) method_asks
@@ -139,7 +139,7 @@ method_reads src =
 pub methods_ask : (xs : List Method) → flat_map method_asks xs ≡ asking Any (flat_map types_of_method xs)
 methods_ask xs = asking-flat Any types_of_method xs
 
-pub embedded_reads : (src : Source) → Reads (IsBytes src.strings) (embedded_at src) (IsEmbedded src) any_type
+pub embedded_reads : (src : Sections) → Reads (IsBytes src.strings) (embedded_at src) (IsEmbedded src) any_type
 unfolding embedded_at
 embedded_reads src =
     bind_reads (pos_at src) (λ pos. type_at Any) (IsPos src) (λ pos. IsNumber) any_type (IsEmbedded src) (pos_reads src) (λ pos. type_reads Any)

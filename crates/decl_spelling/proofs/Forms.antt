@@ -3,7 +3,7 @@ use Rattle.std.proofs.Common.{◌≡◌, ℕ, List, [], ◌∷◌, ◌++◌, map
 use Rattle.std.specs.List.{flat_map, AllByRecursion}
 use Rattle.std.proofs.lemmas.List.{map-append}
 use Rattle.std.proofs.lemmas.List.Elements.{All-from_recursion}
-use Rattle.code_tables.specs.declared.positions.Pos.{Pos}
+use Rattle.go_values.specs.declared.positions.Pos.{Pos}
 use Rattle.code_tables.specs.declared.declarations.DeclTag.{DeclTag}
 use Rattle.code_tables.specs.declared.declarations.DeclTag.TheVariants.{Func, GenericFunc, Defined, GenericDefined, Alias, GenericAlias}
 use Rattle.type_terms.specs.Shapes.{sig_map, sig_types}
@@ -12,7 +12,7 @@ use Rattle.type_terms.specs.Replaced.{all_left, all_right, all_append, parts_of_
 use Rattle.type_terms.specs.Trees.{Text, Tree}
 use Rattle.type_terms.specs.Declarations.{ReceiverOf, Form, var_of, function_of, constant_of, defined_of, renamed_of, type_parameter_of, receiver_map, receiver_types, form_map, form_types}
 use Rattle.decl_spelling.specs.declared.mention.Demand.TheVariants.{Any, Parameter, Underlying}
-use Rattle.decl_spelling.specs.Source.{Source, Basics}
+use Rattle.decl_spelling.specs.Sections.{Sections, Basics}
 use Rattle.decl_spelling.specs.Descriptors.{Sig}
 use Rattle.decl_spelling.specs.Descent.{meets, is_parameter, is_interface}
 use Rattle.decl_spelling.specs.Declarations.{FlatForm, Receiver, whole, constraint_demand}
@@ -51,7 +51,7 @@ module _ (P : Ask → Type 0) (Q : ℕ → Type 0) (each : (ask : Ask) → P ask
   form_all (type_parameter_of pos implicit constraint) all = (each (constraint, constraint_demand implicit 0) all.0, tt)
 
   -- a head that is a whole form
-  pub whole_asks : (src : Source) (a : Here) (form : FlatForm) (b : Here) → IsHeadParts src a (whole form) b → AllByRecursion P (head_asks (whole form)) → AllByRecursion P (form_asks form)
+  pub whole_asks : (src : Sections) (a : Here) (form : FlatForm) (b : Here) → IsHeadParts src a (whole form) b → AllByRecursion P (head_asks (whole form)) → AllByRecursion P (form_asks form)
   whole_asks src a (var_of pos type) b parts all = all
   whole_asks src a (function_of pos tparams sig) b parts all = all
   whole_asks src a (constant_of pos type value) b parts all = absurd parts
@@ -130,7 +130,7 @@ module _ (t : ℕ → Tree) where
   constraint false n met is = absurd (cc)
 
   -- a head that is a whole form, as a declaration's parts
-  pub form_stands : (src : Source) (basics : Basics) (a : Here) (form : FlatForm) (b : Here) → IsHeadParts src a (whole form) b → AllByRecursion Meets (head_asks (whole form)) → IsForm src basics a (with_types form) b
+  pub form_stands : (src : Sections) (basics : Basics) (a : Here) (form : FlatForm) (b : Here) → IsHeadParts src a (whole form) b → AllByRecursion Meets (head_asks (whole form)) → IsForm src basics a (with_types form) b
   form_stands src basics a (var_of pos type) b parts met = parts
   form_stands src basics a (function_of pos tparams sig) b parts met = (
     parts.0,

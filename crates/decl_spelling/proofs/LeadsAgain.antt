@@ -14,7 +14,7 @@ use Rattle.wire_bytes.proofs.Spellings.{begins_again}
 use Rattle.wire_bytes.proofs.Texts.{text_again}
 use Rattle.wire_bytes.proofs.PrefixCodes.{signed_even, signed_odd}
 use Rattle.position_codec.specs.Place.{is_odd}
-use Rattle.decl_spelling.specs.Source.{Source}
+use Rattle.decl_spelling.specs.Sections.{Sections}
 use Rattle.decl_spelling.specs.Heads.{Lead, to_basic, to_name, HasText, HasFile, HasLine, HasPosition, HasNumbers, HasName, IsKindAt, IsNameAt, IsInstanceAt, LeadsTo, HasTParams, IsHead, front_of, find_number, find_signed, find_text, pass_file, pass_line, pass_position, pass_times, pass_numbers, find_name, kind_at, name_by, name_at, find_base, type_by, lead_at, lead_of, pass_tparams, head_lead}
 
 number_again : (a : List ℕ) (n : ℕ) (b : List ℕ) → BeginsWith a n b → find_number a ≡ Some (n, b)
@@ -57,16 +57,16 @@ numbers_again a b has = rw (number_again a (length has.0) has.1 has.3, lt-ltb 0 
 
 -- ---- descriptors
 
-name_again : (src : Source) (a path name : List ℕ) → HasName src a path name → find_name src a ≡ Some (to_name path name)
+name_again : (src : Sections) (a path name : List ℕ) → HasName src a path name → find_name src a ≡ Some (to_name path name)
 unfolding find_name
 name_again src a path name has =
     rw (text_found src.strings a name has.at_path has.name_stands, text_found src.strings has.at_path has.text has.rest has.path_stands) (ap (λ (p : List ℕ). Some (to_name p name)) (sym has.means))
 
-kind_again : (src : Source) (start : ℕ) (kind : TypeTag) (a : List ℕ) → IsKindAt src start kind a → kind_at src start ≡ Some (kind, a)
+kind_again : (src : Sections) (start : ℕ) (kind : TypeTag) (a : List ℕ) → IsKindAt src start kind a → kind_at src start ≡ Some (kind, a)
 unfolding kind_at
 kind_again src start kind a stands = rw (number_again (drop start src.body) _ a stands.0, stands.1) refl
 
-named_again : (src : Source) (start : ℕ) (path name : List ℕ) → IsNameAt src start path name → name_at src start ≡ Some (to_name path name)
+named_again : (src : Sections) (start : ℕ) (path name : List ℕ) → IsNameAt src start path name → name_at src start ≡ Some (to_name path name)
 unfolding name_at
 named_again src start path name is =
     let found = name_again src is.at_name path name is.names in
@@ -76,7 +76,7 @@ named_again src start path name is =
     ] in
     rw (kind_again src start is.kind is.at_name is.stands) by
 
-base_again : (src : Source) (start : ℕ) (path name : List ℕ) → (is : IsInstanceAt src start path name) → find_base src is.at_pos ≡ Some (to_name path name)
+base_again : (src : Sections) (start : ℕ) (path name : List ℕ) → (is : IsInstanceAt src start path name) → find_base src is.at_pos ≡ Some (to_name path name)
 unfolding find_base
 base_again src start path name is =
     let offset : 32 + is.base - 32 ≡ is.base = omega arith in
@@ -84,7 +84,7 @@ base_again src start path name is =
     rw (position_again src.strings is.at_pos is.at_arguments is.pos, numbers_again is.at_arguments is.at_base is.arguments, number_again is.at_base (32 + is.base) is.rest is.base_stands, high, offset)
     (named_again src is.base path name is.names)
 
-type_name_again : (src : Source) (start : ℕ) (path name : List ℕ) → IsNameAt src start path name → lead_at src start ≡ Some (to_name path name)
+type_name_again : (src : Sections) (start : ℕ) (path name : List ℕ) → IsNameAt src start path name → lead_at src start ≡ Some (to_name path name)
 unfolding lead_at
 type_name_again src start path name is =
     let found = name_again src is.at_name path name is.names in
@@ -94,11 +94,11 @@ type_name_again src start path name is =
     ] in
     rw (kind_again src start is.kind is.at_name is.stands) by
 
-type_instance_again : (src : Source) (start : ℕ) (path name : List ℕ) → IsInstanceAt src start path name → lead_at src start ≡ Some (to_name path name)
+type_instance_again : (src : Sections) (start : ℕ) (path name : List ℕ) → IsInstanceAt src start path name → lead_at src start ≡ Some (to_name path name)
 unfolding lead_at
 type_instance_again src start path name is = rw (kind_again src start types.Instance is.at_pos is.stands) (base_again src start path name is)
 
-number_leads_again : (src : Source) (number : ℕ) (lead : Lead) → LeadsTo src number lead → lead_of src number ≡ Some lead
+number_leads_again : (src : Sections) (number : ℕ) (lead : Lead) → LeadsTo src number lead → lead_of src number ≡ Some lead
 number_leads_again src number (to_basic basic) leads = rw (lt-ltb number 32 leads.0, leads.1) refl
 number_leads_again src number (to_name path name) leads =
     let start = leads.0 in
@@ -116,7 +116,7 @@ tparams_again decls.Alias a b has = ap (λ (rest : List ℕ). Some rest) has
 tparams_again decls.GenericAlias a b has = numbers_again a b has
 tparams_again kind a b has = absurd has
 
-pub head_again : (src : Source) (start : ℕ) (lead : Lead) → IsHead src start lead → head_lead src start ≡ Some lead
+pub head_again : (src : Sections) (start : ℕ) (lead : Lead) → IsHead src start lead → head_lead src start ≡ Some lead
 unfolding head_lead
 head_again src start lead is =
     rw (is.letter, is.known, position_again src.strings is.at_pos is.at_tparams is.pos, tparams_again is.kind is.at_tparams is.at_type is.tparams, number_again is.at_type is.number is.rest is.type)

@@ -20,8 +20,8 @@ use Rattle.wire_bytes.proofs.Spellings.{IsBytes, IsBytes-rest, uvarint_takes}
 use Rattle.wire_bytes.proofs.Texts.{IsBytes-drop, text_takes}
 use Rattle.wire_bytes.proofs.Cursors.{IsBytes-behind}
 use Rattle.position_codec.specs.Place.{is_odd}
-use Rattle.position_codec.specs.Paths.{meant}
-use Rattle.decl_spelling.specs.Source.{Source}
+use Rattle.file_parts.specs.Paths.{meant}
+use Rattle.decl_spelling.specs.Sections.{Sections}
 use Rattle.decl_spelling.specs.Codes.{basic_of, type_tag_of, decl_tag_of}
 use Rattle.decl_spelling.specs.Heads.{Lead, to_basic, to_name, HasText, HasFile, HasLine, HasPosition, HasNumbers, HasName, IsKindAt, IsNameAt, IsInstanceAt, LeadsTo, HasTParams, IsHead, ◌>>=◌, front_of, find_number, find_signed, find_text, pass_file, pass_line, pass_position, pass_times, pass_numbers, find_name, kind_at, name_by, name_at, find_base, type_by, lead_at, lead_of, pass_tparams, find_byte, head_lead}
 use Rattle.decl_spelling.proofs.Taken.{number_again}
@@ -129,11 +129,11 @@ to_name_as F G then (to_basic basic) leads = leads
 to_name_as F G then (to_name path name) leads = then path name leads
 
 -- a file's own bytes
-pub record AreBytes (src : Source) : Type 0 where
+pub record AreBytes (src : Sections) : Type 0 where
   pub strings : IsBytes src.strings
   pub body : IsBytes src.body
 
-name_found : (src : Source) (a : List ℕ) (lead : Lead) → AreBytes src → IsBytes a → find_name src a ≡ Some lead → ToName (HasName src a) lead
+name_found : (src : Sections) (a : List ℕ) (lead : Lead) → AreBytes src → IsBytes a → find_name src a ≡ Some lead → ToName (HasName src a) lead
 unfolding find_name
 name_found src a lead are fits e =
     let first = bind_some (find_text src.strings a) (λ name. find_text src.strings name.1 >>= λ text. Some (to_name (meant src.own text.0) name.0)) lead e in
@@ -143,7 +143,7 @@ name_found src a lead are fits e =
     subst (ToName (HasName src a)) (some_is (to_name (meant src.own second.0.0) first.0.0) lead second.2)
     (record { at_path = first.0.1; rest = second.0.1; text = second.0.0; name_stands = name.0; path_stands = text.0; means = refl })
 
-kind_found : (src : Source) (start : ℕ) (kind : TypeTag) (a : List ℕ) → AreBytes src → kind_at src start ≡ Some (kind, a) → IsKindAt src start kind a × IsBytes a
+kind_found : (src : Sections) (start : ℕ) (kind : TypeTag) (a : List ℕ) → AreBytes src → kind_at src start ≡ Some (kind, a) → IsKindAt src start kind a × IsBytes a
 unfolding kind_at
 kind_found src start kind a are e =
     let first = bind_some (find_number (drop start src.body)) (λ number. type_tag_of src.version number.0 >>= λ kind. Some (kind, number.1)) (kind, a) e in
@@ -153,21 +153,21 @@ kind_found src start kind a are e =
     subst (λ (p : TypeTag × List ℕ). IsKindAt src start p.0 p.1 × IsBytes p.1) (some_is (second.0, first.0.1) (kind, a) second.2)
     ((subst (λ (n : ℕ). BeginsWith (drop start src.body) n first.0.1) code number.0, subst (λ (n : ℕ). type_tag_of src.version n ≡ Some second.0) code second.1), number.1)
 
-named_by : (src : Source) (start : ℕ) (kind : TypeTag) (a : List ℕ) (lead : Lead) → AreBytes src → IsKindAt src start kind a → IsBytes a → name_by src kind a ≡ Some lead → ToName (IsNameAt src start) lead
+named_by : (src : Sections) (start : ℕ) (kind : TypeTag) (a : List ℕ) (lead : Lead) → AreBytes src → IsKindAt src start kind a → IsBytes a → name_by src kind a ≡ Some lead → ToName (IsNameAt src start) lead
 named_by src start types.Defined a lead are stands fits e =
     to_name_as (HasName src a) (IsNameAt src start) (λ path name names. record { kind = types.Defined; at_name = a; its_kind = inl refl; stands = stands; names = names }) lead (name_found src a lead are fits e)
 named_by src start types.Alias a lead are stands fits e =
     to_name_as (HasName src a) (IsNameAt src start) (λ path name names. record { kind = types.Alias; at_name = a; its_kind = inr refl; stands = stands; names = names }) lead (name_found src a lead are fits e)
 named_by src start kind a lead are stands fits e = absurd cc
 
-named_found : (src : Source) (start : ℕ) (lead : Lead) → AreBytes src → name_at src start ≡ Some lead → ToName (IsNameAt src start) lead
+named_found : (src : Sections) (start : ℕ) (lead : Lead) → AreBytes src → name_at src start ≡ Some lead → ToName (IsNameAt src start) lead
 unfolding name_at
 named_found src start lead are e =
     let first = bind_some (kind_at src start) (λ kind. name_by src kind.0 kind.1) lead e in
     let kind = kind_found src start first.0.0 first.0.1 are first.1 in
     named_by src start first.0.0 first.0.1 lead are kind.0 kind.1 first.2
 
-base_found : (src : Source) (start : ℕ) (a : List ℕ) (lead : Lead) → AreBytes src → IsKindAt src start types.Instance a → IsBytes a → find_base src a ≡ Some lead → ToName (IsInstanceAt src start) lead
+base_found : (src : Sections) (start : ℕ) (a : List ℕ) (lead : Lead) → AreBytes src → IsKindAt src start types.Instance a → IsBytes a → find_base src a ≡ Some lead → ToName (IsInstanceAt src start) lead
 unfolding find_base
 base_found src start a lead are stands fits e =
     let first = bind_some (pass_position src.strings a) (λ at_arguments. pass_numbers at_arguments >>= λ at_base. find_number at_base >>= λ base. cond (ltb base.0 32) None (name_at src (base.0 - 32))) lead e in
@@ -195,29 +195,29 @@ base_found src start a lead are stands fits e =
           }) lead (named_found src (third.0.0 - 32) lead are high.1)
     ]
 
-abbrev IsTypeAt : Source → ℕ → List ℕ → List ℕ → Type 0
+abbrev IsTypeAt : Sections → ℕ → List ℕ → List ℕ → Type 0
 IsTypeAt src start path name = IsNameAt src start path name ⊎ IsInstanceAt src start path name
 
-type_by_found : (src : Source) (start : ℕ) (kind : TypeTag) (a : List ℕ) (lead : Lead) → AreBytes src → IsKindAt src start kind a → IsBytes a → type_by src kind a ≡ Some lead → ToName (IsTypeAt src start) lead
+type_by_found : (src : Sections) (start : ℕ) (kind : TypeTag) (a : List ℕ) (lead : Lead) → AreBytes src → IsKindAt src start kind a → IsBytes a → type_by src kind a ≡ Some lead → ToName (IsTypeAt src start) lead
 type_by_found src start types.Instance a lead are stands fits e = to_name_as (IsInstanceAt src start) (IsTypeAt src start) (λ path name leads. inr leads) lead (base_found src start a lead are stands fits e)
 type_by_found src start kind a lead are stands fits e = to_name_as (IsNameAt src start) (IsTypeAt src start) (λ path name leads. inl leads) lead (named_by src start kind a lead are stands fits e)
 
-type_found : (src : Source) (start : ℕ) (lead : Lead) → AreBytes src → lead_at src start ≡ Some lead → ToName (IsTypeAt src start) lead
+type_found : (src : Sections) (start : ℕ) (lead : Lead) → AreBytes src → lead_at src start ≡ Some lead → ToName (IsTypeAt src start) lead
 unfolding lead_at
 type_found src start lead are e =
     let first = bind_some (kind_at src start) (λ kind. type_by src kind.0 kind.1) lead e in
     let kind = kind_found src start first.0.0 first.0.1 are first.1 in
     type_by_found src start first.0.0 first.0.1 lead are kind.0 kind.1 first.2
 
-basic_leads : (src : Source) (number : ℕ) (o : Option Basic) (lead : Lead) → number < 32 → basic_of src.version number ≡ o → option_map to_basic o ≡ Some lead → LeadsTo src number lead
+basic_leads : (src : Sections) (number : ℕ) (o : Option Basic) (lead : Lead) → number < 32 → basic_of src.version number ≡ o → option_map to_basic o ≡ Some lead → LeadsTo src number lead
 basic_leads src number (Some basic) lead low is e = subst (LeadsTo src number) (some_is (to_basic basic) lead e) (low, is)
 basic_leads src number None lead low is e = absurd cc
 
-name_leads : (src : Source) (number : ℕ) (lead : Lead) → 32 ≤ number → ToName (IsTypeAt src (number - 32)) lead → LeadsTo src number lead
+name_leads : (src : Sections) (number : ℕ) (lead : Lead) → 32 ≤ number → ToName (IsTypeAt src (number - 32)) lead → LeadsTo src number lead
 name_leads src number (to_basic basic) high leads = absurd leads
 name_leads src number (to_name path name) high leads = (number - 32, omega arith, leads)
 
-number_leads : (src : Source) (number : ℕ) (lead : Lead) → AreBytes src → lead_of src number ≡ Some lead → LeadsTo src number lead
+number_leads : (src : Sections) (number : ℕ) (lead : Lead) → AreBytes src → lead_of src number ≡ Some lead → LeadsTo src number lead
 number_leads src number lead are e =
     elim (chosen (ltb number 32) (option_map to_basic (basic_of src.version number)) (lead_at src (number - 32)) (Some lead) e) [
       | inl low ↦ basic_leads src number (basic_of src.version number) lead (ltb-true number 32 low.0) refl low.1
@@ -239,7 +239,7 @@ byte_found (first ∷ rest) byte b fits e =
     let same = some_is (first, rest) (byte, b) e in
     (ap (λ (p : ℕ × List ℕ). p.0 ∷ p.1) same, subst (λ (p : ℕ × List ℕ). IsBytes p.1) same (IsBytes-rest first rest fits))
 
-pub head_taken : (src : Source) (start : ℕ) (lead : Lead) → AreBytes src → head_lead src start ≡ Some lead → IsHead src start lead
+pub head_taken : (src : Sections) (start : ℕ) (lead : Lead) → AreBytes src → head_lead src start ≡ Some lead → IsHead src start lead
 unfolding head_lead
 head_taken src start lead are e =
     let first = bind_some (find_byte (drop start src.body)) (λ letter. decl_tag_of src.version letter.0 >>= λ kind. pass_position src.strings letter.1 >>= λ at_tparams. pass_tparams kind at_tparams >>= λ at_type. find_number at_type >>= λ number. lead_of src number.0) lead e in

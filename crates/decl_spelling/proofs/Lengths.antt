@@ -2,14 +2,14 @@
 use Rattle.std.proofs.Common.{◌≡◌, ℕ, suc, ◌+◌, ◌-◌, ◌<◌, ◌≤◌, inl, inr, List, [], ◌∷◌, length, sum_by, Contains, Bool, true, false, Ok, Some, refl, ◌∙◌, ap, subst, arith}
 use Rattle.std.specs.List.{flat_map}
 use Rattle.std.proofs.lemmas.List.Sums.{sum_by-cons}
-use Rattle.code_tables.specs.declared.positions.Pos.{Pos}
+use Rattle.go_values.specs.declared.positions.Pos.{Pos}
 use Rattle.code_tables.specs.DeclTag.{decl_tag_code}
 use Rattle.wire_bytes.specs.Reading.{place, ◌>>=◌}
 use Rattle.wire_bytes.proofs.Steps.{bind_ok, done_is}
 use Rattle.wire_bytes.proofs.Spellings.{IsBytes}
 use Rattle.type_terms.specs.Declarations.{constant_of, defined_of, receiver_types}
 use Rattle.decl_spelling.specs.declared.mention.Demand.TheVariants.{Any}
-use Rattle.decl_spelling.specs.Source.{Source, Basics, window}
+use Rattle.decl_spelling.specs.Sections.{Sections, Basics, window}
 use Rattle.decl_spelling.specs.Reading.{Ahead, start, list_at}
 use Rattle.decl_spelling.specs.Tables.{Finished, Table, at, type_named}
 use Rattle.decl_spelling.specs.Descent.{block_at}
@@ -66,26 +66,26 @@ spaced_sum low limit (e ∷ es) apart le each =
 -- ---- where a declaration that was read lies
 
 -- The types that it reaches end before it starts, and it ends in the data section.
-pub record Lies (src : Source) (offset : ℕ) (x : Read) : Type 0 where
+pub record Lies (src : Sections) (offset : ℕ) (x : Read) : Type 0 where
   pub fine : Fine src x.table
   pub types : (o : ℕ) (f : Finished) → at x.table o ≡ Some f → f.end ≤ offset
   pub starts : src.body_at + offset ≤ x.end
   pub ends : x.end ≤ src.body_at + length src.body
 
 -- what is ahead in the block of a declaration, and what is known so far
-record LiesSoFar (src : Source) (offset : ℕ) (a : Ahead) (done : Table) : Type 0 where
+record LiesSoFar (src : Sections) (offset : ℕ) (a : Ahead) (done : Table) : Type 0 where
   end : a.spot.end ≡ src.body_at + length src.body
   left : length a.spot.left + offset ≤ length src.body
   fine : Fine src done
   types : (o : ℕ) (f : Finished) → at done o ≡ Some f → f.end ≤ offset
 
-read_lies : (src : Source) (offset : ℕ) (form : FlatForm) (a : Ahead) (done : Table) (x : Read) → LiesSoFar src offset a done → read form a done ≡ Ok x → Lies src offset x
+read_lies : (src : Sections) (offset : ℕ) (form : FlatForm) (a : Ahead) (done : Table) (x : Read) → LiesSoFar src offset a done → read form a done ≡ Ok x → Lies src offset x
 read_lies src offset form a done x so_far e =
     subst (Lies src offset) (done_is (record { form = form; end = place a.spot; table = done }) x e)
     (record { fine = so_far.fine; types = so_far.types; starts = omega (arith, so_far.end, so_far.left); ends = omega (arith, so_far.end) })
 
 -- as more is read, and more types are
-lies_on : (src : Source) (offset : ℕ) (a b : Ahead) (asks : List Ask) (done known : Table) → LiesSoFar src offset a done → Went a asks b → Added src offset done known → LiesSoFar src offset (blank b) known
+lies_on : (src : Sections) (offset : ℕ) (a b : Ahead) (asks : List Ask) (done known : Table) → LiesSoFar src offset a done → Went a asks b → Added src offset done known → LiesSoFar src offset (blank b) known
 lies_on src offset a b asks done known so_far went added = record {
   end = went.same_end ∙ so_far.end;
   left = omega (arith, went.frugal, so_far.left);
@@ -93,7 +93,7 @@ lies_on src offset a b asks done known so_far went added = record {
   types = λ o f found. elim (added.new o f found) [ inl before ↦ so_far.types o f before | inr ends ↦ ends ];
 }
 
-module _ (src : Source) (basics : Basics) (strings : IsBytes src.strings) (bytes : IsBytes src.body) (offset : ℕ) (within : offset ≤ length src.body) where
+module _ (src : Sections) (basics : Basics) (strings : IsBytes src.strings) (bytes : IsBytes src.body) (offset : ℕ) (within : offset ≤ length src.body) where
   methods_lie : (pos : Pos) (tparams : List ℕ) (underlying : ℕ) (a : Ahead) (done : Table) (x : Read) → Fits a → LiesSoFar src offset a done → (own : Bool) → after_type src offset pos tparams underlying a done own ≡ Ok x → Lies src offset x
   methods_lie pos tparams underlying a done x fits so_far true e =
       let both = bind_ok (resolved src offset (list_at (receiver_at src) a) done) (methods_of pos tparams underlying) x e in
@@ -119,7 +119,7 @@ module _ (src : Source) (basics : Basics) (strings : IsBytes src.strings) (bytes
   after_lies (of_type pos tparams underlying) a done x fits so_far e = methods_lie pos tparams underlying a done x fits so_far (has_methods (type_named src.version done underlying)) e
   after_lies (of_constant pos type at) a done x fits so_far e = constant_lies pos type at a done x fits so_far e
 
-module _ (src : Source) (basics : Basics) (strings : IsBytes src.strings) (bytes : IsBytes src.body) (offset : ℕ) (x : Read) (e : read_at src basics offset ≡ Ok x) where
+module _ (src : Sections) (basics : Basics) (strings : IsBytes src.strings) (bytes : IsBytes src.body) (offset : ℕ) (x : Read) (e : read_at src basics offset ≡ Ok x) where
   pub decl_lies : Lies src offset x
   unfolding read_at
   decl_lies =

@@ -3,13 +3,13 @@ use Rattle.std.proofs.Common.{◌≡◌, ◌≢◌, ℕ, ◌+◌, ◌<◌, ◌�
 use Rattle.std.specs.List.{AllByRecursion}
 use Rattle.std.proofs.lemmas.Bool.Decides.{eqb_tells}
 use Rattle.std.proofs.lemmas.List.Elements.{All-from_recursion, All-weaker}
-use Rattle.code_tables.specs.declared.positions.Pos.{Pos}
+use Rattle.go_values.specs.declared.positions.Pos.{Pos}
 use Rattle.type_terms.specs.Shapes.{shape_types, retype}
 use Rattle.type_terms.specs.ShapeLaws.{shape_types_map}
 use Rattle.type_terms.specs.Trees.{Text, tree_of}
 use Rattle.wire_bytes.specs.Uvarint.{IsGroups, BeginsWith}
 use Rattle.code_tables.specs.TypeTag.{type_tag_code}
-use Rattle.decl_spelling.specs.Source.{Source}
+use Rattle.decl_spelling.specs.Sections.{Sections}
 use Rattle.decl_spelling.specs.Descriptors.{Flat}
 use Rattle.decl_spelling.specs.Tables.{Finished, Table, at, with_block, free_to, type_named}
 use Rattle.decl_spelling.specs.Grammar.{Here, IsDescriptor}
@@ -24,7 +24,7 @@ use Rattle.decl_spelling.proofs.TypesTaken.{Fine, Added}
 use Rattle.decl_spelling.proofs.Elementwise.{all_map}
 
 -- with more blocks a block says the same
-pub says_more : (src : Source) (some all : List Block) (b : Block) → ((x : Block) → Contains some x → Contains all x) → Says src some b → Says src all b
+pub says_more : (src : Sections) (some all : List Block) (b : Block) → ((x : Block) → Contains some x → Contains all x) → Says src some b → Says src all b
 says_more src some all b more says = record {
   parts = says.parts;
   after = says.after;
@@ -36,7 +36,7 @@ says_more src some all b more says = record {
 }
 
 -- the types that are known, as the relation has them
-pub all_named : (src : Source) (mid : Table) (blocks : List Block) (offset : ℕ) (x : Flat) → ((b : Block) → Contains (blocks_of mid) b → Contains blocks b) → AllByRecursion (IsMet src mid offset) (shape_asks x)
+pub all_named : (src : Sections) (mid : Table) (blocks : List Block) (offset : ℕ) (x : Flat) → ((b : Block) → Contains (blocks_of mid) b → Contains blocks b) → AllByRecursion (IsMet src mid offset) (shape_asks x)
     → All (Names src blocks offset) (shape_types (retype (known_as src mid) x))
 all_named src mid blocks offset x more met =
     let each : AllByRecursion (λ n. Names src blocks offset (known_as src mid n)) (shape_types x)
@@ -46,7 +46,7 @@ all_named src mid blocks offset x more met =
     (All-from_recursion (Names src blocks offset) (map (known_as src mid) (shape_types x)) (all_map (Names src blocks offset) (known_as src mid) (shape_types x) each))
 
 -- a descriptor that was read, with its types
-pub new_says : (src : Source) (mid : Table) (blocks : List Block) (offset : ℕ) (x : Flat) (after : Here) (end : ℕ) → ((b : Block) → Contains (blocks_of mid) b → Contains blocks b)
+pub new_says : (src : Sections) (mid : Table) (blocks : List Block) (offset : ℕ) (x : Flat) (after : Here) (end : ℕ) → ((b : Block) → Contains (blocks_of mid) b → Contains blocks b)
     → AllByRecursion (IsMet src mid offset) (shape_asks x) → IsDescriptor src (here src offset) x after → end + length after.left ≡ length src.body
     → Says src blocks (block offset (record { end = end; tree = tree_of (retype (type_named src.version mid) x) }))
 new_says src mid blocks offset x after end more met stands ends =
@@ -77,7 +77,7 @@ number_some bytes rest n begins = by begins.0 begins.1.groups begins.2
     by [] groups is = absurd groups
     by (b ∷ front) groups is = omega (arith, ap (λ (bytes : List ℕ). length bytes) is, length-append (b ∷ front) rest)
 
-module _ (src : Source) where
+module _ (src : Sections) where
   -- and so does a descriptor, for its kind
   pub descriptor_some : (a : Here) (x : Flat) (b : Here) → IsDescriptor src a x b → length b.left < length a.left
   descriptor_some a x b w = omega (arith, number_some a.left w.at_parts.left (type_tag_code w.kind) w.number.0, (flat_by_reads src w.kind).shrinks w.at_parts x b (w.its_kind, w.parts))

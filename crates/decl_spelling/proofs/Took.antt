@@ -1,7 +1,7 @@
 -- What is said of a reader of a block's own bytes.
 use Rattle.std.proofs.Common.{◌≡◌, ℕ, ◌+◌, ◌^◌, ◌<◌, ◌≤◌, List, [], ◌∷◌, ◌++◌, length, map, refl, Ok}
 use Rattle.wire_bytes.proofs.Spellings.{IsBytes}
-use Rattle.code_tables.specs.declared.constants.Const.{Const}
+use Rattle.go_values.specs.declared.constants.Const.{Const}
 use Rattle.code_tables.specs.declared.declarations.DeclTag.{DeclTag}
 use Rattle.code_tables.specs.declared.declarations.DeclTag.TheVariants.{Var, Func, GenericFunc, Const as ConstTag, Defined, GenericDefined, Alias, GenericAlias, TypeParameter}
 use Rattle.code_tables.specs.DeclTag.{decl_tag_code}
@@ -13,7 +13,7 @@ use Rattle.type_terms.specs.Declarations.{var_of, function_of, constant_of, defi
 use Rattle.decl_spelling.specs.declared.mention.Mention.{Mention}
 use Rattle.decl_spelling.specs.declared.mention.Demand.{Demand}
 use Rattle.decl_spelling.specs.declared.mention.Demand.TheVariants.{Any, Parameter, Underlying, Base, NoParameter, Interface}
-use Rattle.decl_spelling.specs.Source.{Source}
+use Rattle.decl_spelling.specs.Sections.{Sections}
 use Rattle.decl_spelling.specs.Codes.{decl_tag_of}
 use Rattle.decl_spelling.specs.Reading.{Ahead, Reader, Stopped}
 use Rattle.decl_spelling.specs.Descriptors.{Flat}
@@ -109,7 +109,7 @@ abbrev pub AreTParams : Here → List ℕ → Here → Type 0
 AreTParams a [] b = a ≡ b
 AreTParams a (t ∷ ts) b = IsList IsNumber a (t ∷ ts) b
 
-abbrev pub IsHeadParts : Source → Here → Head → Here → Type 0
+abbrev pub IsHeadParts : Sections → Here → Head → Here → Type 0
 IsHeadParts src a (whole (var_of pos type)) b = (next : Here) × IsPos src a pos next × IsNumber next type b
 IsHeadParts src a (whole (function_of pos tparams sig)) b = (at_tparams at_sig : Here) × IsPos src a pos at_tparams × AreTParams at_tparams tparams at_sig × IsSig src at_sig sig b
 IsHeadParts src a (whole (constant_of pos type value)) b = ⊥
@@ -130,7 +130,7 @@ kind_of_head (of_type pos tparams type) = generic_or tparams GenericDefined Defi
 kind_of_head (of_constant pos type at) = ConstTag
 
 -- the byte of its kind, which the file's version has, and its parts up to where types decide what follows
-pub record IsHead (src : Source) (a : Here) (x : Head) (b : Here) : Type 0 where
+pub record IsHead (src : Sections) (a : Here) (x : Head) (b : Here) : Type 0 where
   pub rest : List ℕ
   pub kind : a.left ≡ decl_tag_code (kind_of_head x) ∷ rest
   pub known : decl_tag_of src.version (decl_tag_code (kind_of_head x)) ≡ Some (kind_of_head x)
@@ -163,5 +163,5 @@ IsSpelling flag = Unit {0}
 IsSpelling offset = Unit {0}
 IsSpelling (number signed max) = IsGreatestLength max
 
-abbrev pub IsValueOf : Source → Spelling → Here → Const → Here → Type 0
+abbrev pub IsValueOf : Sections → Spelling → Here → Const → Here → Type 0
 IsValueOf src spelling a value b = (at_value : Here) × IsKind src.version spelling a at_value × IsSpelled src spelling at_value value b

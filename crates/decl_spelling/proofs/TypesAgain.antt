@@ -5,7 +5,7 @@ use Rattle.std.proofs.lemmas.Bool.Decides.{nat_tests}
 use Rattle.wire_bytes.specs.declared.fault.ByteFault.{ByteFault}
 use Rattle.wire_bytes.specs.Reading.{◌>>=◌}
 use Rattle.decl_spelling.specs.declared.mention.Mention.{Mention}
-use Rattle.decl_spelling.specs.Source.{Source}
+use Rattle.decl_spelling.specs.Sections.{Sections}
 use Rattle.decl_spelling.specs.Codes.{basic_of}
 use Rattle.decl_spelling.specs.Tables.{Finished, Table, at, free_to, basic_tree, finished_tree, type_named}
 use Rattle.decl_spelling.specs.Descent.{ReadsBlock, meets, named_at, found_or_read, with_type, resolve, resolve_all}
@@ -18,15 +18,15 @@ use Rattle.decl_spelling.proofs.NewBlocks.{block_some}
 use Rattle.decl_spelling.proofs.Elementwise.{all_weaker, all_unmap, all_both}
 
 -- a mention of a type that its holder may name, and asks for
-abbrev pub IsNameable : Source → List Block → ℕ → Mention → Type 0
+abbrev pub IsNameable : Sections → List Block → ℕ → Mention → Type 0
 IsNameable src all holder m = (x : Known) × Names src all holder x × (x.number ≡ m.value) × (meets m.asked x.tree ≡ true)
 
-pub mentions_named : (src : Source) (all : List Block) (holder : ℕ) (ms : List Mention) (asks : List Ask) → map ask_of ms ≡ asks → AllByRecursion (IsNamed src all holder) asks → AllByRecursion (IsNameable src all holder) ms
+pub mentions_named : (src : Sections) (all : List Block) (holder : ℕ) (ms : List Mention) (asks : List Ask) → map ask_of ms ≡ asks → AllByRecursion (IsNamed src all holder) asks → AllByRecursion (IsNameable src all holder) ms
 mentions_named src all holder ms asks same named =
     all_weaker (λ m. IsNamed src all holder (ask_of m)) (IsNameable src all holder) (λ m known. (known.0, known.1, known.2, sym (meets_unplaced m.asked (known.0).tree) ∙ known.3)) ms
     (all_unmap (IsNamed src all holder) ask_of ms (subst (AllByRecursion (IsNamed src all holder)) (sym same) named))
 
-module _ (src : Source) (all : List Block) where
+module _ (src : Sections) (all : List Block) where
   -- each finished descriptor is one of the blocks
   abbrev pub Inside : Table → Type 0
   Inside done = AllByRecursion (λ e. Contains all (block e.0 e.1)) done

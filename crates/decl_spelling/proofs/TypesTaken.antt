@@ -7,7 +7,7 @@ use Rattle.wire_bytes.specs.declared.fault.ByteFault.TheVariants as faults
 use Rattle.wire_bytes.specs.Reading.{◌>>=◌, demand}
 use Rattle.wire_bytes.proofs.Steps.{bind_ok, demand_ok, chosen, done_is}
 use Rattle.decl_spelling.specs.declared.mention.Mention.{Mention}
-use Rattle.decl_spelling.specs.Source.{Source}
+use Rattle.decl_spelling.specs.Sections.{Sections}
 use Rattle.decl_spelling.specs.Codes.{basic_of}
 use Rattle.decl_spelling.specs.Tables.{Finished, Table, at, type_named}
 use Rattle.decl_spelling.specs.Descent.{ReadsBlock, meets, unmet, named_at, found_or_read, with_descriptor, with_basic, with_type, resolve, resolve_all}
@@ -16,20 +16,20 @@ use Rattle.decl_spelling.proofs.TableLaws.{Rising, blocks_of}
 use Rattle.decl_spelling.proofs.NamedTypes.{Kept, IsKnown, IsAnswered, answered_still}
 
 -- what is finished is in order, and explains itself
-pub record Fine (src : Source) (done : Table) : Type 0 where
+pub record Fine (src : Sections) (done : Table) : Type 0 where
   pub rising : Rising 0 done
   pub sound : Sound src (blocks_of done)
 
 -- What was finished stays, and what is new ends at or before the start of the holder.
-pub record Added (src : Source) (holder : ℕ) (done known : Table) : Type 0 where
+pub record Added (src : Sections) (holder : ℕ) (done known : Table) : Type 0 where
   pub fine : Fine src known
   pub kept : Kept done known
   pub new : (o : ℕ) (f : Finished) → at known o ≡ Some f → (at done o ≡ Some f) ⊎ (f.end ≤ holder)
 
-pub added_none : (src : Source) (holder : ℕ) (done : Table) → Fine src done → Added src holder done done
+pub added_none : (src : Sections) (holder : ℕ) (done : Table) → Fine src done → Added src holder done done
 added_none src holder done fine = record { fine = fine; kept = λ o f found. found; new = λ o f found. inl found }
 
-pub added_twice : (src : Source) (holder : ℕ) (done mid known : Table) → Added src holder done mid → Added src holder mid known → Added src holder done known
+pub added_twice : (src : Sections) (holder : ℕ) (done mid known : Table) → Added src holder done mid → Added src holder mid known → Added src holder done known
 added_twice src holder done mid known first second = record {
   fine = second.fine;
   kept = λ o f found. second.kept o f (first.kept o f found);
@@ -37,7 +37,7 @@ added_twice src holder done mid known first second = record {
 }
 
 -- what is asked of a reader of descriptors
-abbrev pub ReadsSoundly : Source → ReadsBlock → Type 0
+abbrev pub ReadsSoundly : Sections → ReadsBlock → Type 0
 ReadsSoundly src read = (offset holder : ℕ) (done known : Table) → offset < holder → holder ≤ length src.body → Fine src done → at done offset ≡ None → read offset holder done ≡ Ok known
     → Added src holder done known × (f : Finished) × (at known offset ≡ Some f) × (f.end ≤ holder)
 
@@ -46,7 +46,7 @@ named_ok m (Ok done) known e = e
 named_ok m (Err (faults.Ended place)) known e = absurd (cc)
 named_ok m (Err f) known e = absurd (cc)
 
-module _ (src : Source) (read : ReadsBlock) (reads : ReadsSoundly src read) (holder : ℕ) (within : holder ≤ length src.body) where
+module _ (src : Sections) (read : ReadsBlock) (reads : ReadsSoundly src read) (holder : ℕ) (within : holder ≤ length src.body) where
   basic_known : (m : Mention) (done known : Table) → m.value < 32 → Fine src done → with_basic src.version m done ≡ Ok known → Added src holder done known × IsKnown src known holder m.value
   basic_known m done known small fine e =
       let test = bind_ok (demand (is_some (basic_of src.version m.value)) (faults.Range m.at m.value)) (λ u. Ok done) known e in

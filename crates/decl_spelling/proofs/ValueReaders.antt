@@ -4,8 +4,8 @@ use Rattle.std.specs.Prelude.{ℤ, ◌==◌}
 use Rattle.std.proofs.lemmas.Bool.{eqb-true, eqb-false, eq-eqb}
 use Rattle.code_tables.specs.declared.predeclared.Basic.{Basic}
 use Rattle.code_tables.specs.declared.predeclared.Basic.TheVariants as b
-use Rattle.code_tables.specs.declared.constants.Const.{Const}
-use Rattle.code_tables.specs.declared.constants.Const.TheVariants.{Bool as truth, Int as whole, Str as text}
+use Rattle.go_values.specs.declared.constants.Const.{Const}
+use Rattle.go_values.specs.declared.constants.Const.TheVariants.{Bool as truth, Int as whole, Str as text}
 use Rattle.wire_bytes.specs.declared.fault.ByteFault.TheVariants as faults
 use Rattle.wire_bytes.specs.Reading.{place}
 use Rattle.wire_bytes.specs.Begins.{Begins}
@@ -14,7 +14,7 @@ use Rattle.wire_bytes.specs.Whole.{Whole, whole_at}
 use Rattle.wire_bytes.proofs.Spellings.{IsBytes}
 use Rattle.wire_bytes.proofs.WholeSpellings.{whole_again}
 use Rattle.position_codec.proofs.Readings.{varint_at_again}
-use Rattle.decl_spelling.specs.Source.{Source}
+use Rattle.decl_spelling.specs.Sections.{Sections}
 use Rattle.decl_spelling.specs.Reading.{Ahead, Reader, Stopped, plain, truth_at, text_at}
 use Rattle.decl_spelling.specs.Constants.{Spelling, flag, offset, number, spelled, kind_of, kind_number, kind_given_at, kind_at, with_value, spelled_at, value_at}
 use Rattle.decl_spelling.specs.Grammar.{Here, IsNumber, IsTruth, IsText}
@@ -82,22 +82,22 @@ module _ {X : Type 0} (make : X → Const) (p : Reader X) (F : Here → X → He
     shrinks = λ a v b w. let s = split a v b w in r.shrinks a s.0 b s.2;
   }
 
-flag_split : (src : Source) (a : Here) (v : Const) (b : Here) → IsSpelled src flag a v b → (x : Bool) × (v ≡ truth x) × IsTruth a x b
+flag_split : (src : Sections) (a : Here) (v : Const) (b : Here) → IsSpelled src flag a v b → (x : Bool) × (v ≡ truth x) × IsTruth a x b
 flag_split src a (truth x) b w = (x, refl, w)
 flag_split src a v b w = absurd w
 
-offset_split : (src : Source) (a : Here) (v : Const) (b : Here) → IsSpelled src offset a v b → (x : List ℕ) × (v ≡ text x) × IsText src a x b
+offset_split : (src : Sections) (a : Here) (v : Const) (b : Here) → IsSpelled src offset a v b → (x : List ℕ) × (v ≡ text x) × IsText src a x b
 offset_split src a (text x) b w = (x, refl, w)
 offset_split src a v b w = absurd w
 
 abbrev IsWhole : Bool → ℕ → Here → ℤ → Here → Type 0
 IsWhole signed max a x b = Begins (Whole signed max) a.left x b.left × (b.before ≡ a.before)
 
-number_split : (src : Source) (signed : Bool) (max : ℕ) (a : Here) (v : Const) (b : Here) → IsSpelled src (number signed max) a v b → (x : ℤ) × (v ≡ whole x) × IsWhole signed max a x b
+number_split : (src : Sections) (signed : Bool) (max : ℕ) (a : Here) (v : Const) (b : Here) → IsSpelled src (number signed max) a v b → (x : ℤ) × (v ≡ whole x) × IsWhole signed max a x b
 number_split src signed max a (whole x) b w = (x, refl, w)
 number_split src signed max a v b w = absurd w
 
-spelled_reads : (src : Source) (spelling : Spelling) → IsSpelling spelling → Reads (IsBytes src.strings) (spelled_at src spelling) (IsSpelled src spelling) nothing
+spelled_reads : (src : Sections) (spelling : Spelling) → IsSpelling spelling → Reads (IsBytes src.strings) (spelled_at src spelling) (IsSpelled src spelling) nothing
 spelled_reads src flag is = with_value_reads truth truth_at IsTruth (IsSpelled src flag) truth_reads (λ a x b w. w) (flag_split src)
 spelled_reads src offset is = with_value_reads text (text_at src) (IsText src) (IsSpelled src offset) (text_reads src) (λ a x b w. w) (offset_split src)
 spelled_reads src (number signed max) is =
@@ -105,7 +105,7 @@ spelled_reads src (number signed max) is =
     (plain_reads (whole_at signed max) (Whole signed max) (λ given s v after fits e. whole_takes signed max s v after is fits e) (λ s v front rest spelled e. whole_again signed max s front rest v is spelled e))
     (λ a x b w. w) (number_split src signed max)
 
-pub value_reads : (src : Source) (spelling : Spelling) → IsSpelling spelling → Reads (IsBytes src.strings) (value_at src spelling) (IsValueOf src spelling) nothing
+pub value_reads : (src : Sections) (spelling : Spelling) → IsSpelling spelling → Reads (IsBytes src.strings) (value_at src spelling) (IsValueOf src spelling) nothing
 unfolding value_at
 value_reads src spelling is =
     bind_reads (kind_at src.version spelling) (λ u. spelled_at src spelling) (KindStands src.version spelling) (λ u. IsSpelled src spelling) nothing (IsValueOf src spelling) (kind_reads src.version spelling)

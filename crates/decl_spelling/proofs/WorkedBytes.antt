@@ -2,8 +2,8 @@
 use Rattle.std.proofs.Common.{◌≡◌, ℕ, List, [], ◌∷◌, Option, Some, None, Result, Ok, Err, refl}
 use Rattle.std.specs.Prelude.{pos}
 use Rattle.code_tables.specs.declared.predeclared.Basic.TheVariants as basics
-use Rattle.code_tables.specs.declared.constants.Const.{Const}
-use Rattle.code_tables.specs.declared.constants.Const.TheVariants.{Int as whole}
+use Rattle.go_values.specs.declared.constants.Const.{Const}
+use Rattle.go_values.specs.declared.constants.Const.TheVariants.{Int as whole}
 use Rattle.wire_bytes.specs.declared.fault.ByteFault.{ByteFault}
 use Rattle.wire_bytes.specs.declared.fault.ByteFault.TheVariants as faults
 use Rattle.wire_bytes.specs.Uvarint.{uvarint_in}
@@ -12,7 +12,7 @@ use Rattle.wire_bytes.specs.Whole.{judged}
 use Rattle.position_codec.specs.Position.{position_at, moved_at, file_at, line_at}
 use Rattle.type_terms.specs.Declarations.{Decl, constant_of, defined_of}
 use Rattle.type_terms.specs.Trees.{Tree, pointer, predeclared}
-use Rattle.decl_spelling.specs.Source.{Source, Basics}
+use Rattle.decl_spelling.specs.Sections.{Sections, Basics}
 use Rattle.decl_spelling.specs.Reading.{type_at, times, list_at, text_at}
 use Rattle.decl_spelling.specs.Descriptors.{flat_at, element_at, map_at}
 use Rattle.decl_spelling.specs.Descent.{block_at}
@@ -23,7 +23,7 @@ use Rattle.decl_spelling.specs.Declarations.{decl_at, read_at, head_at, defined_
 abbrev strings : List ℕ
 strings = 4 ∷ 112 ∷ 46 ∷ 103 ∷ 111 ∷ 0 ∷ []
 
-abbrev in_version : ℕ → List ℕ → Source
+abbrev in_version : ℕ → List ℕ → Sections
 in_version version body = record { strings = strings; body = body; body_at = 14; version = version; own = 112 ∷ []; paths = [] ∷ [] }
 
 abbrev no_names : Basics

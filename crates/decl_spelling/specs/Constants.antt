@@ -2,15 +2,15 @@
 use Rattle.std.specs.Prelude.{◌*◌, ℕ, Bool, true, false, ◌==◌, Result, Ok, Err, Option, Some, None, cond}
 use Rattle.code_tables.specs.declared.predeclared.Basic.{Basic}
 use Rattle.code_tables.specs.declared.predeclared.Basic.TheVariants as b
-use Rattle.code_tables.specs.declared.constants.Const.{Const}
-use Rattle.code_tables.specs.declared.constants.Const.TheVariants.{Bool as truth, Int as whole, Str as text}
+use Rattle.go_values.specs.declared.constants.Const.{Const}
+use Rattle.go_values.specs.declared.constants.Const.TheVariants.{Bool as truth, Int as whole, Str as text}
 use Rattle.wire_bytes.specs.declared.fault.ByteFault.{ByteFault}
 use Rattle.wire_bytes.specs.declared.fault.ByteFault.TheVariants as faults
 use Rattle.wire_bytes.specs.Reading.{place, ◌>>=◌}
 use Rattle.wire_bytes.specs.Varint.{number_of, varint_at}
 use Rattle.wire_bytes.specs.Whole.{whole_at}
 use Rattle.type_terms.specs.Trees.{Tree, predeclared, named, alias, instance}
-use Rattle.decl_spelling.specs.Source.{Source, Basics}
+use Rattle.decl_spelling.specs.Sections.{Sections, Basics}
 use Rattle.decl_spelling.specs.Reading.{Ahead, Reader, Stopped, plain, ask, truth_at, text_at}
 
 -- the predeclared type to which a type comes down
@@ -99,12 +99,12 @@ abbrev pub with_value : {X : Type 0} → (X → Const) → Result (X × Ahead) S
 with_value make (Ok x) = Ok (make x.0, x.1)
 with_value make (Err s) = Err s
 
-abbrev pub spelled_at : Source → Spelling → Reader Const
+abbrev pub spelled_at : Sections → Spelling → Reader Const
 spelled_at src flag a = with_value truth (truth_at a)
 spelled_at src offset a = with_value text (text_at src a)
 spelled_at src (number signed max) a = with_value whole (plain a (whole_at signed max a.spot))
 
-unfoldable pub value_at : Source → Spelling → Reader Const
+unfoldable pub value_at : Sections → Spelling → Reader Const
 value_at src spelling a = do
   kind ← kind_at src.version spelling a
   spelled_at src spelling kind.1

@@ -1,6 +1,6 @@
 -- A declaration, as it is read.
 use Rattle.std.specs.Prelude.{◌≡◌, ℕ, List, [], length, Bool, true, false, Result, Ok, Err}
-use Rattle.code_tables.specs.declared.positions.Pos.{Pos}
+use Rattle.go_values.specs.declared.positions.Pos.{Pos}
 use Rattle.code_tables.specs.declared.declarations.DeclTag.{DeclTag}
 use Rattle.code_tables.specs.declared.declarations.DeclTag.TheVariants.{Var, Func, GenericFunc, Const as ConstTag, Defined, GenericDefined, Alias, GenericAlias, TypeParameter}
 use Rattle.code_tables.specs.declared.predeclared.Basic.TheVariants.{Any as any_type}
@@ -11,7 +11,7 @@ use Rattle.type_terms.specs.Trees.{Text, Tree, predeclared, interface}
 use Rattle.type_terms.specs.Declarations.{ReceiverOf, Form, var_of, function_of, constant_of, defined_of, renamed_of, type_parameter_of, form_map, Decl}
 use Rattle.decl_spelling.specs.declared.mention.Demand.{Demand}
 use Rattle.decl_spelling.specs.declared.mention.Demand.TheVariants.{Any as any, Parameter, Underlying, NoParameter, Interface}
-use Rattle.decl_spelling.specs.Source.{Source, Basics, window}
+use Rattle.decl_spelling.specs.Sections.{Sections, Basics, window}
 use Rattle.decl_spelling.specs.Codes.{decl_tag_of}
 use Rattle.decl_spelling.specs.Reading.{Ahead, Reader, Stopped, start, or_stop, plain, truth_at, text_at, pos_at, type_at, list_at, some_at}
 use Rattle.decl_spelling.specs.Descriptors.{param_at, sig_at}
@@ -37,51 +37,51 @@ pub data Head : Type 0 where
 abbrev pub tparams_at : Reader (List ℕ)
 tparams_at a = some_at (type_at Parameter) a
 
-unfoldable pub var_at : Source → Reader Head
+unfoldable pub var_at : Sections → Reader Head
 var_at src a = do
   pos ← pos_at src a
   type ← type_at any pos.1
   Ok (whole (var_of pos.0 type.0), type.1)
 
-unfoldable pub func_decl_at : Source → Reader Head
+unfoldable pub func_decl_at : Sections → Reader Head
 func_decl_at src a = do
   pos ← pos_at src a
   sig ← sig_at src pos.1
   Ok (whole (function_of pos.0 [] sig.0), sig.1)
 
-unfoldable pub generic_func_at : Source → Reader Head
+unfoldable pub generic_func_at : Sections → Reader Head
 generic_func_at src a = do
   pos ← pos_at src a
   tparams ← tparams_at pos.1
   sig ← sig_at src tparams.1
   Ok (whole (function_of pos.0 tparams.0 sig.0), sig.1)
 
-unfoldable pub constant_at : Source → Reader Head
+unfoldable pub constant_at : Sections → Reader Head
 constant_at src a = do
   pos ← pos_at src a
   type ← type_at any pos.1
   Ok (of_constant pos.0 type.0 (place (pos.1).spot), type.1)
 
-unfoldable pub defined_at : Source → Reader Head
+unfoldable pub defined_at : Sections → Reader Head
 defined_at src a = do
   pos ← pos_at src a
   type ← type_at Underlying pos.1
   Ok (of_type pos.0 [] type.0, type.1)
 
-unfoldable pub generic_defined_at : Source → Reader Head
+unfoldable pub generic_defined_at : Sections → Reader Head
 generic_defined_at src a = do
   pos ← pos_at src a
   tparams ← tparams_at pos.1
   type ← type_at Underlying tparams.1
   Ok (of_type pos.0 tparams.0 type.0, type.1)
 
-unfoldable pub alias_at : Source → Reader Head
+unfoldable pub alias_at : Sections → Reader Head
 alias_at src a = do
   pos ← pos_at src a
   type ← type_at any pos.1
   Ok (whole (renamed_of pos.0 [] type.0), type.1)
 
-unfoldable pub generic_alias_at : Source → Reader Head
+unfoldable pub generic_alias_at : Sections → Reader Head
 generic_alias_at src a = do
   pos ← pos_at src a
   tparams ← tparams_at pos.1
@@ -93,14 +93,14 @@ abbrev pub constraint_demand : Bool → ℕ → Demand
 constraint_demand true at = Interface at
 constraint_demand false at = any
 
-unfoldable pub parameter_at : Source → Reader Head
+unfoldable pub parameter_at : Sections → Reader Head
 parameter_at src a = do
   pos ← pos_at src a
   implicit ← truth_at pos.1
   type ← type_at (constraint_demand implicit.0 (place (pos.1).spot)) implicit.1
   Ok (whole (type_parameter_of pos.0 implicit.0 type.0), type.1)
 
-abbrev pub head_by : Source → DeclTag → Reader Head
+abbrev pub head_by : Sections → DeclTag → Reader Head
 head_by src Var a = var_at src a
 head_by src Func a = func_decl_at src a
 head_by src GenericFunc a = generic_func_at src a
@@ -111,14 +111,14 @@ head_by src Alias a = alias_at src a
 head_by src GenericAlias a = generic_alias_at src a
 head_by src TypeParameter a = parameter_at src a
 
-unfoldable pub head_at : Source → Reader Head
+unfoldable pub head_at : Sections → Reader Head
 head_at src a = do
   byte ← plain a (byte_at a.spot)
   tag ← or_stop a (faults.Tag (place a.spot) byte.0) (decl_tag_of src.version byte.0)
   head_by src tag byte.1
 
 -- a method of a defined type
-unfoldable pub receiver_at : Source → Reader Receiver
+unfoldable pub receiver_at : Sections → Reader Receiver
 receiver_at src a = do
   pos ← pos_at src a
   name ← text_at src pos.1
@@ -129,7 +129,7 @@ receiver_at src a = do
 -- ---- the parts together
 
 -- the types that a part of the declaration names are read before what follows it
-abbrev pub resolved : {X : Type 0} → Source → ℕ → Result (X × Ahead) Stopped → Table → Result ((X × Ahead) × Table) ByteFault
+abbrev pub resolved : {X : Type 0} → Sections → ℕ → Result (X × Ahead) Stopped → Table → Result ((X × Ahead) × Table) ByteFault
 resolved src offset (Ok x) done = do
   known ← resolve_all src (block_at src offset) offset (x.1).mentions done
   Ok ((x.0, record { spot = (x.1).spot; before = (x.1).before; mentions = [] }), known)
@@ -155,7 +155,7 @@ read form a done = Ok (record { form = form; end = place a.spot; table = done })
 abbrev pub methods_of : Pos → List ℕ → ℕ → (List Receiver × Ahead) × Table → Result Read ByteFault
 methods_of pos tparams underlying x = read (defined_of pos tparams underlying (x.0).0) (x.0).1 x.1
 
-abbrev pub after_type : Source → ℕ → Pos → List ℕ → ℕ → Ahead → Table → Bool → Result Read ByteFault
+abbrev pub after_type : Sections → ℕ → Pos → List ℕ → ℕ → Ahead → Table → Bool → Result Read ByteFault
 after_type src offset pos tparams underlying a done true = resolved src offset (list_at (receiver_at src) a) done >>= methods_of pos tparams underlying
 after_type src offset pos tparams underlying a done false = read (defined_of pos tparams underlying []) a done
 
@@ -163,31 +163,31 @@ abbrev pub fault_alone : {X : Type 0} → Result X Stopped → Result X ByteFaul
 fault_alone (Ok x) = Ok x
 fault_alone (Err stopped) = Err stopped.fault
 
-abbrev pub after_constant : Source → Basics → Pos → ℕ → ℕ → Ahead → Table → Result Read ByteFault
+abbrev pub after_constant : Sections → Basics → Pos → ℕ → ℕ → Ahead → Table → Result Read ByteFault
 after_constant src basics pos type at a done = do
   spelling ← spelling_at at (basic_type basics (type_named src.version done type))
   value ← fault_alone (value_at src spelling a)
   read (constant_of pos type value.0) value.1 done
 
-abbrev pub after_head : Source → Basics → ℕ → Head → Ahead → Table → Result Read ByteFault
+abbrev pub after_head : Sections → Basics → ℕ → Head → Ahead → Table → Result Read ByteFault
 after_head src basics offset (whole form) a done = read form a done
 after_head src basics offset (of_type pos tparams underlying) a done = after_type src offset pos tparams underlying a done (has_methods (type_named src.version done underlying))
 after_head src basics offset (of_constant pos type at) a done = after_constant src basics pos type at a done
 
 -- the declaration at an offset
-unfoldable pub read_at : Source → Basics → ℕ → Result Read ByteFault
+unfoldable pub read_at : Sections → Basics → ℕ → Result Read ByteFault
 read_at src basics offset = do
   head ← resolved src offset (head_at src (start (window src offset (length src.body)))) []
   after_head src basics offset (head.0).0 (head.0).1 head.1
 
 -- what was read
-abbrev pub decl_of : Source → Read → Decl
+abbrev pub decl_of : Sections → Read → Decl
 decl_of src x = form_map (λ pos. pos) (λ text. text) (type_named src.version x.table) x.form
 
 -- the declaration that is spelled at an offset, or the first fault
-abbrev pub decl_at : Source → Basics → ℕ → Result Decl ByteFault
+abbrev pub decl_at : Sections → Basics → ℕ → Result Decl ByteFault
 decl_at src basics offset = read_at src basics offset >>= λ x. Ok (decl_of src x)
 
 -- the first fault of the bytes that stand at an offset
-abbrev pub FirstFault : Source → Basics → ℕ → ByteFault → Type 0
+abbrev pub FirstFault : Sections → Basics → ℕ → ByteFault → Type 0
 FirstFault src basics offset fault = decl_at src basics offset ≡ Err fault

@@ -11,7 +11,7 @@ use Rattle.type_terms.specs.Trees.{Tree, predeclared, named, parameter, alias, i
 use Rattle.decl_spelling.specs.declared.mention.Mention.{Mention}
 use Rattle.decl_spelling.specs.declared.mention.Demand.{Demand}
 use Rattle.decl_spelling.specs.declared.mention.Demand.TheVariants.{Any, Parameter, Underlying, Base, NoParameter, Interface}
-use Rattle.decl_spelling.specs.Source.{Source, window}
+use Rattle.decl_spelling.specs.Sections.{Sections, window}
 use Rattle.decl_spelling.specs.Codes.{basic_of}
 use Rattle.decl_spelling.specs.Reading.{Ahead, Stopped, start}
 use Rattle.decl_spelling.specs.Descriptors.{Flat, flat_at}
@@ -84,28 +84,28 @@ abbrev pub with_basic : ℕ → Mention → Table → Result Table ByteFault
 with_basic version m done = demand (is_some (basic_of version m.value)) (faults.Range m.at m.value) >>= λ _. Ok done
 
 -- the type is known now
-abbrev pub with_type : Source → ReadsBlock → ℕ → Mention → Table → Result Table ByteFault
+abbrev pub with_type : Sections → ReadsBlock → ℕ → Mention → Table → Result Table ByteFault
 with_type src read holder m done = cond (nat_lt m.value 32) (with_basic src.version m done) (with_descriptor read holder m done)
 
 -- and is what its holder asks for
-abbrev pub resolve : Source → ReadsBlock → ℕ → Mention → Table → Result Table ByteFault
+abbrev pub resolve : Sections → ReadsBlock → ℕ → Mention → Table → Result Table ByteFault
 resolve src read holder m done = do
   known ← with_type src read holder m done
   met ← demand (meets m.asked (type_named src.version known m.value)) (unmet m m.asked)
   Ok known
 
-abbrev pub resolve_all : Source → ReadsBlock → ℕ → List Mention → Table → Result Table ByteFault
+abbrev pub resolve_all : Sections → ReadsBlock → ℕ → List Mention → Table → Result Table ByteFault
 resolve_all src read holder [] done = Ok done
 resolve_all src read holder (m ∷ ms) done = resolve src read holder m done >>= resolve_all src read holder ms
 
 -- ---- a whole descriptor
 
 -- the offset in the data section of what is next
-abbrev pub offset_of : Source → Ahead → ℕ
+abbrev pub offset_of : Sections → Ahead → ℕ
 offset_of src a = place a.spot - src.body_at
 
 -- its types, and then its own end or fault
-abbrev pub finish : Source → ReadsBlock → ℕ → Result (Flat × Ahead) Stopped → Table → Result Table ByteFault
+abbrev pub finish : Sections → ReadsBlock → ℕ → Result (Flat × Ahead) Stopped → Table → Result Table ByteFault
 finish src read offset (Ok x) done = do
   known ← resolve_all src read offset (x.1).mentions done
   Ok (with_block known offset (record { end = offset_of src x.1; tree = tree_of (retype (type_named src.version known) x.0) }))
@@ -115,6 +115,6 @@ finish src read offset (Err stopped) done = do
 
 -- The descriptor at an offset, for a block that starts at another one. It may use the bytes up to that start, or up to those of a
 -- descriptor that was read before. The number bounds the offsets.
-unfoldable pub block_at : Source → ℕ → ReadsBlock
+unfoldable pub block_at : Sections → ℕ → ReadsBlock
 block_at src zero offset holder done = Err (faults.Ended 0)
 block_at src (suc n) offset holder done = finish src (block_at src n) offset (flat_at src (start (window src offset (free_to offset holder done)))) done

@@ -1,6 +1,6 @@
 -- Descriptors of types: what stands in a block behind its tag. A type that stands in another one is its typeOff.
 use Rattle.std.specs.Prelude.{ℕ, ◌^◌, List, [], ◌∷◌, Bool, false, Ok, nat_lt}
-use Rattle.code_tables.specs.declared.positions.Pos.{Pos}
+use Rattle.go_values.specs.declared.positions.Pos.{Pos}
 use Rattle.code_tables.specs.declared.descriptors.TypeTag.{TypeTag}
 use Rattle.code_tables.specs.declared.descriptors.TypeTag.TheVariants.{Defined, Pointer, Slice, Array, Chan, Map, Signature, Struct, Interface, TypeParameter, Instance, Union, Alias}
 use Rattle.wire_bytes.specs.declared.fault.ByteFault.TheVariants as faults
@@ -8,7 +8,7 @@ use Rattle.wire_bytes.specs.Reading.{place, ◌>>=◌}
 use Rattle.type_terms.specs.Trees.{Text}
 use Rattle.type_terms.specs.Shapes.{ParamOf, SigOf, OriginOf, FieldOf, MethodOf, TermOf, Shape, named_of, parameter_of, alias_of, pointer_of, slice_of, array_of, chan_of, map_of, func_of, struct_of, interface_of, instance_of, union_of}
 use Rattle.decl_spelling.specs.declared.mention.Demand.TheVariants.{Any, Base}
-use Rattle.decl_spelling.specs.Source.{Source}
+use Rattle.decl_spelling.specs.Sections.{Sections}
 use Rattle.decl_spelling.specs.Codes.{type_tag_of, dir_of}
 use Rattle.decl_spelling.specs.Reading.{Reader, ask, or_stop, number_at, truth_at, text_at, path_at, pos_at, type_at, list_at, some_at}
 
@@ -23,7 +23,7 @@ abbrev pub Sig : Type 0
 Sig = SigOf Pos Text ℕ
 
 -- a position, a name and a type
-unfoldable pub param_at : Source → Reader Param
+unfoldable pub param_at : Sections → Reader Param
 param_at src a = do
   pos ← pos_at src a
   name ← text_at src pos.1
@@ -36,7 +36,7 @@ variadic_at [] a = Ok (false, a)
 variadic_at (param ∷ params) a = truth_at a
 
 -- the parameters, the results, and whether the last parameter is variadic
-unfoldable pub sig_at : Source → Reader Sig
+unfoldable pub sig_at : Sections → Reader Sig
 sig_at src a = do
   params ← list_at (param_at src) a
   results ← list_at (param_at src) params.1
@@ -47,7 +47,7 @@ sig_at src a = do
 abbrev pub no_origin : OriginOf Text Text
 no_origin = record { text = []; path = [] }
 
-unfoldable pub field_at : Source → Reader (FieldOf Pos Text Text ℕ)
+unfoldable pub field_at : Sections → Reader (FieldOf Pos Text Text ℕ)
 field_at src a = do
   pos ← pos_at src a
   name ← text_at src pos.1
@@ -56,7 +56,7 @@ field_at src a = do
   tag ← text_at src embedded.1
   Ok (record { origin = no_origin; pos = pos.0; name = name.0; type = type.0; embedded = embedded.0; tag = tag.0 }, tag.1)
 
-unfoldable pub method_at : Source → Reader (MethodOf Pos Text Text ℕ)
+unfoldable pub method_at : Sections → Reader (MethodOf Pos Text Text ℕ)
 method_at src a = do
   pos ← pos_at src a
   name ← text_at src pos.1
@@ -64,7 +64,7 @@ method_at src a = do
   Ok (record { origin = no_origin; pos = pos.0; name = name.0; sig = sig.0 }, sig.1)
 
 -- the position of an embedded type isn't kept
-unfoldable pub embedded_at : Source → Reader ℕ
+unfoldable pub embedded_at : Sections → Reader ℕ
 embedded_at src a = do
   pos ← pos_at src a
   type_at Any pos.1
@@ -78,7 +78,7 @@ term_at a = do
 -- ---- a case for each tag
 
 -- a name and the path of its package
-unfoldable pub qualified_at : Source → (Text → Text → Flat) → Reader Flat
+unfoldable pub qualified_at : Sections → (Text → Text → Flat) → Reader Flat
 qualified_at src make a = do
   name ← text_at src a
   path ← path_at src name.1
@@ -110,19 +110,19 @@ map_at a = do
   type ← type_at Any key.1
   Ok (map_of key.0 type.0, type.1)
 
-unfoldable pub func_at : Source → Reader Flat
+unfoldable pub func_at : Sections → Reader Flat
 func_at src a = do
   home ← path_at src a
   sig ← sig_at src home.1
   Ok (func_of home.0 sig.0, sig.1)
 
-unfoldable pub struct_at : Source → Reader Flat
+unfoldable pub struct_at : Sections → Reader Flat
 struct_at src a = do
   home ← path_at src a
   fields ← list_at (field_at src) home.1
   Ok (struct_of home.0 fields.0, fields.1)
 
-unfoldable pub interface_at : Source → Reader Flat
+unfoldable pub interface_at : Sections → Reader Flat
 interface_at src a = do
   home ← path_at src a
   embedded ← list_at (embedded_at src) home.1
@@ -130,7 +130,7 @@ interface_at src a = do
   Ok (interface_of home.0 embedded.0 methods.0, methods.1)
 
 -- the position isn't kept
-unfoldable pub instance_at : Source → Reader Flat
+unfoldable pub instance_at : Sections → Reader Flat
 instance_at src a = do
   pos ← pos_at src a
   args ← some_at (type_at Any) pos.1
@@ -142,7 +142,7 @@ union_at a = do
   terms ← some_at term_at a
   Ok (union_of terms.0, terms.1)
 
-abbrev pub flat_by : Source → TypeTag → Reader Flat
+abbrev pub flat_by : Sections → TypeTag → Reader Flat
 flat_by src Defined a = qualified_at src named_of a
 flat_by src Pointer a = element_at pointer_of a
 flat_by src Slice a = element_at slice_of a
@@ -158,7 +158,7 @@ flat_by src Union a = union_at a
 flat_by src Alias a = qualified_at src alias_of a
 
 -- a descriptor
-unfoldable pub flat_at : Source → Reader Flat
+unfoldable pub flat_at : Sections → Reader Flat
 flat_at src a = do
   number ← number_at a
   tag ← or_stop a (faults.Tag (place a.spot) number.0) (type_tag_of src.version number.0)

@@ -1,6 +1,6 @@
 -- What stands in a block, apart from how it is read: from these bytes, with this place before, to those.
 use Rattle.std.specs.Prelude.{◌≡◌, ℕ, ◌^◌, ◌<◌, List, [], ◌∷◌, Bool, false, length, Option, Some, None}
-use Rattle.code_tables.specs.declared.positions.Pos.{Pos}
+use Rattle.go_values.specs.declared.positions.Pos.{Pos}
 use Rattle.code_tables.specs.declared.descriptors.TypeTag.{TypeTag}
 use Rattle.code_tables.specs.declared.descriptors.TypeTag.TheVariants.{Defined, Pointer, Slice, Array, Chan, Map, Signature, Struct, Interface, TypeParameter, Instance, Union, Alias}
 use Rattle.code_tables.specs.TypeTag.{type_tag_code}
@@ -10,11 +10,11 @@ use Rattle.wire_bytes.specs.Varint.{Flag}
 use Rattle.wire_bytes.specs.Text.{Text}
 use Rattle.position_codec.specs.Place.{Place, Named, pos_of}
 use Rattle.position_codec.specs.Position.{Position}
-use Rattle.position_codec.specs.Paths.{IsPathAt}
+use Rattle.file_parts.specs.Paths.{IsPathAt}
 use Rattle.type_terms.specs.declared.literals.Dir.{Dir}
 use Rattle.type_terms.specs.declared.literals.Dir.TheVariants.{Receive, Send, Both}
 use Rattle.type_terms.specs.Shapes.{FieldOf, MethodOf, TermOf, predeclared_of, named_of, parameter_of, alias_of, pointer_of, slice_of, array_of, chan_of, map_of, func_of, struct_of, interface_of, instance_of, union_of}
-use Rattle.decl_spelling.specs.Source.{Source}
+use Rattle.decl_spelling.specs.Sections.{Sections}
 use Rattle.decl_spelling.specs.Codes.{type_tag_of}
 use Rattle.decl_spelling.specs.Descriptors.{Flat, Param, Sig, no_origin}
 
@@ -30,14 +30,14 @@ abbrev pub IsTruth : Here → Bool → Here → Type 0
 IsTruth a x b = Begins Flag a.left x b.left × (b.before ≡ a.before)
 
 -- the offset of a text
-abbrev pub IsText : Source → Here → List ℕ → Here → Type 0
+abbrev pub IsText : Sections → Here → List ℕ → Here → Type 0
 IsText src a text b = (offset : ℕ) × IsNumber a offset b × Text src.strings offset text
 
 -- the offset of the text that stands for a package's path
-abbrev pub IsPath : Source → Here → List ℕ → Here → Type 0
+abbrev pub IsPath : Sections → Here → List ℕ → Here → Type 0
 IsPath src a path b = (offset : ℕ) × IsNumber a offset b × IsPathAt src.strings src.own src.paths offset path
 
-abbrev pub IsPos : Source → Here → Pos → Here → Type 0
+abbrev pub IsPos : Sections → Here → Pos → Here → Type 0
 IsPos src a pos b = (now : Named) × Begins (Position src.strings a.before) a.left now b.left × (b.before ≡ now.place) × (pos ≡ pos_of now.place)
 
 -- things that stand one after the other
@@ -49,7 +49,7 @@ InTurn Stands a (x ∷ xs) b = (next : Here) × Stands a x next × InTurn Stands
 abbrev pub IsList : {X : Type 0} → (Here → X → Here → Type 0) → Here → List X → Here → Type 0
 IsList Stands a xs b = (next : Here) × IsNumber a (length xs) next × InTurn Stands next xs b
 
-pub record IsParam (src : Source) (a : Here) (x : Param) (b : Here) : Type 0 where
+pub record IsParam (src : Sections) (a : Here) (x : Param) (b : Here) : Type 0 where
   pub at_name : Here
   pub at_type : Here
   pub pos : IsPos src a x.pos at_name
@@ -61,14 +61,14 @@ abbrev pub IsVariadic : List Param → Here → Bool → Here → Type 0
 IsVariadic [] a x b = (x ≡ false) × (a ≡ b)
 IsVariadic (param ∷ params) a x b = IsTruth a x b
 
-pub record IsSig (src : Source) (a : Here) (x : Sig) (b : Here) : Type 0 where
+pub record IsSig (src : Sections) (a : Here) (x : Sig) (b : Here) : Type 0 where
   pub at_results : Here
   pub at_variadic : Here
   pub params : IsList (IsParam src) a x.params at_results
   pub results : IsList (IsParam src) at_results x.results at_variadic
   pub variadic : IsVariadic x.params at_variadic x.variadic b
 
-pub record IsField (src : Source) (a : Here) (x : FieldOf Pos (List ℕ) (List ℕ) ℕ) (b : Here) : Type 0 where
+pub record IsField (src : Sections) (a : Here) (x : FieldOf Pos (List ℕ) (List ℕ) ℕ) (b : Here) : Type 0 where
   pub at_name : Here
   pub at_type : Here
   pub at_embedded : Here
@@ -80,7 +80,7 @@ pub record IsField (src : Source) (a : Here) (x : FieldOf Pos (List ℕ) (List �
   pub embedded : IsTruth at_embedded x.embedded at_tag
   pub tag : IsText src at_tag x.tag b
 
-pub record IsMethod (src : Source) (a : Here) (x : MethodOf Pos (List ℕ) (List ℕ) ℕ) (b : Here) : Type 0 where
+pub record IsMethod (src : Sections) (a : Here) (x : MethodOf Pos (List ℕ) (List ℕ) ℕ) (b : Here) : Type 0 where
   pub at_name : Here
   pub at_sig : Here
   pub origin : x.origin ≡ no_origin
@@ -89,7 +89,7 @@ pub record IsMethod (src : Source) (a : Here) (x : MethodOf Pos (List ℕ) (List
   pub sig : IsSig src at_sig x.sig b
 
 -- a position, and the type
-abbrev pub IsEmbedded : Source → Here → ℕ → Here → Type 0
+abbrev pub IsEmbedded : Sections → Here → ℕ → Here → Type 0
 IsEmbedded src a type b = (pos : Pos) × (next : Here) × IsPos src a pos next × IsNumber next type b
 
 abbrev pub IsTerm : Here → TermOf ℕ → Here → Type 0
@@ -101,12 +101,12 @@ dir_number Send = 2
 dir_number Both = 3
 
 -- a name and the path of its package
-abbrev pub IsQualified : Source → Here → List ℕ → List ℕ → Here → Type 0
+abbrev pub IsQualified : Sections → Here → List ℕ → List ℕ → Here → Type 0
 IsQualified src a name path b = (next : Here) × IsText src a name next × IsPath src next path b
 
 -- ---- descriptors, a case for each kind
 
-abbrev pub IsParts : Source → Here → Flat → Here → Type 0
+abbrev pub IsParts : Sections → Here → Flat → Here → Type 0
 IsParts src a (predeclared_of basic) b = ⊥
 IsParts src a (named_of name path) b = IsQualified src a name path b
 IsParts src a (parameter_of name path) b = IsQualified src a name path b
@@ -140,7 +140,7 @@ tag_of (instance_of base args) = Some Instance
 tag_of (union_of terms) = Some Union
 
 -- the number of its kind, which the file's version has, and its parts
-pub record IsDescriptor (src : Source) (a : Here) (x : Flat) (b : Here) : Type 0 where
+pub record IsDescriptor (src : Sections) (a : Here) (x : Flat) (b : Here) : Type 0 where
   pub kind : TypeTag
   pub its_kind : tag_of x ≡ Some kind
   pub at_parts : Here

@@ -15,8 +15,8 @@ use Rattle.wire_bytes.specs.Uvarint.{BeginsWith, Front, uvarint_in}
 use Rattle.wire_bytes.specs.Varint.{Varint, signed_of}
 use Rattle.wire_bytes.specs.Text.{Text, text_in}
 use Rattle.position_codec.specs.Place.{is_odd}
-use Rattle.position_codec.specs.Paths.{meant}
-use Rattle.decl_spelling.specs.Source.{Source}
+use Rattle.file_parts.specs.Paths.{meant}
+use Rattle.decl_spelling.specs.Sections.{Sections}
 use Rattle.decl_spelling.specs.Codes.{basic_of, type_tag_of, decl_tag_of}
 
 -- where a head leads: to a predeclared type, or to a name under a package's path
@@ -48,7 +48,7 @@ abbrev pub HasNumbers : List ℕ → List ℕ → Type 0
 HasNumbers a b = (numbers : List ℕ) × (next : List ℕ) × (0 < length numbers) × BeginsWith a (length numbers) next × InOrder BeginsWith next numbers b
 
 -- a name, and the text that stands for the path of its package, whether or not the index lists it
-pub record HasName (src : Source) (a : List ℕ) (path name : List ℕ) : Type 0 where
+pub record HasName (src : Sections) (a : List ℕ) (path name : List ℕ) : Type 0 where
   pub at_path : List ℕ
   pub rest : List ℕ
   pub text : List ℕ
@@ -59,11 +59,11 @@ pub record HasName (src : Source) (a : List ℕ) (path name : List ℕ) : Type 0
 -- ---- descriptors at an offset of the data section
 
 -- of this kind, which the file's version has, with its parts from here on
-abbrev pub IsKindAt : Source → ℕ → TypeTag → List ℕ → Type 0
+abbrev pub IsKindAt : Sections → ℕ → TypeTag → List ℕ → Type 0
 IsKindAt src start kind a = BeginsWith (drop start src.body) (type_tag_code kind) a × (type_tag_of src.version (type_tag_code kind) ≡ Some kind)
 
 -- a defined type or an alias by its name
-pub record IsNameAt (src : Source) (start : ℕ) (path name : List ℕ) : Type 0 where
+pub record IsNameAt (src : Sections) (start : ℕ) (path name : List ℕ) : Type 0 where
   pub kind : TypeTag
   pub at_name : List ℕ
   pub its_kind : (kind ≡ types.Defined) ⊎ (kind ≡ types.Alias)
@@ -71,7 +71,7 @@ pub record IsNameAt (src : Source) (start : ℕ) (path name : List ℕ) : Type 0
   pub names : HasName src at_name path name
 
 -- an instance of a generic one
-pub record IsInstanceAt (src : Source) (start : ℕ) (path name : List ℕ) : Type 0 where
+pub record IsInstanceAt (src : Sections) (start : ℕ) (path name : List ℕ) : Type 0 where
   pub at_pos : List ℕ
   pub at_arguments : List ℕ
   pub at_base : List ℕ
@@ -84,7 +84,7 @@ pub record IsInstanceAt (src : Source) (start : ℕ) (path name : List ℕ) : Ty
   pub names : IsNameAt src base path name
 
 -- where a typeOff leads
-abbrev pub LeadsTo : Source → ℕ → Lead → Type 0
+abbrev pub LeadsTo : Sections → ℕ → Lead → Type 0
 LeadsTo src number (to_basic basic) = (number < 32) × (basic_of src.version number ≡ Some basic)
 LeadsTo src number (to_name path name) = (start : ℕ) × (number ≡ 32 + start) × (IsNameAt src start path name ⊎ IsInstanceAt src start path name)
 
@@ -99,7 +99,7 @@ HasTParams decls.GenericAlias a b = HasNumbers a b
 HasTParams _ a b = ⊥
 
 -- At this offset a declaration begins that leads there.
-pub record IsHead (src : Source) (start : ℕ) (lead : Lead) : Type 0 where
+pub record IsHead (src : Sections) (start : ℕ) (lead : Lead) : Type 0 where
   pub kind : DeclTag
   pub at_pos : List ℕ
   pub at_tparams : List ℕ
@@ -179,46 +179,46 @@ pass_numbers a = do
   count ← find_number a
   cond (nat_lt 0 count.0) (pass_times count.0 count.1) None
 
-unfoldable pub find_name : Source → List ℕ → Option Lead
+unfoldable pub find_name : Sections → List ℕ → Option Lead
 find_name src a = do
   name ← find_text src.strings a
   text ← find_text src.strings name.1
   Some (to_name (meant src.own text.0) name.0)
 
 -- the kind of the descriptor at an offset, and its parts
-unfoldable pub kind_at : Source → ℕ → Option (TypeTag × List ℕ)
+unfoldable pub kind_at : Sections → ℕ → Option (TypeTag × List ℕ)
 kind_at src start = do
   number ← find_number (drop start src.body)
   kind ← type_tag_of src.version number.0
   Some (kind, number.1)
 
-abbrev pub name_by : Source → TypeTag → List ℕ → Option Lead
+abbrev pub name_by : Sections → TypeTag → List ℕ → Option Lead
 name_by src types.Defined a = find_name src a
 name_by src types.Alias a = find_name src a
 name_by src _ a = None
 
-unfoldable pub name_at : Source → ℕ → Option Lead
+unfoldable pub name_at : Sections → ℕ → Option Lead
 name_at src start = do
   kind ← kind_at src start
   name_by src kind.0 kind.1
 
-unfoldable pub find_base : Source → List ℕ → Option Lead
+unfoldable pub find_base : Sections → List ℕ → Option Lead
 find_base src a = do
   at_arguments ← pass_position src.strings a
   at_base ← pass_numbers at_arguments
   base ← find_number at_base
   cond (nat_lt base.0 32) None (name_at src (base.0 - 32))
 
-abbrev pub type_by : Source → TypeTag → List ℕ → Option Lead
+abbrev pub type_by : Sections → TypeTag → List ℕ → Option Lead
 type_by src types.Instance a = find_base src a
 type_by src kind a = name_by src kind a
 
-unfoldable pub lead_at : Source → ℕ → Option Lead
+unfoldable pub lead_at : Sections → ℕ → Option Lead
 lead_at src start = do
   kind ← kind_at src start
   type_by src kind.0 kind.1
 
-abbrev pub lead_of : Source → ℕ → Option Lead
+abbrev pub lead_of : Sections → ℕ → Option Lead
 lead_of src number = cond (nat_lt number 32) (option_map to_basic (basic_of src.version number)) (lead_at src (number - 32))
 
 abbrev pub pass_tparams : DeclTag → Passer
@@ -229,7 +229,7 @@ pass_tparams decls.GenericAlias a = pass_numbers a
 pass_tparams _ a = None
 
 -- where the declaration at an offset leads, if there is a head
-unfoldable pub head_lead : Source → ℕ → Option Lead
+unfoldable pub head_lead : Sections → ℕ → Option Lead
 head_lead src start = do
   letter ← find_byte (drop start src.body)
   kind ← decl_tag_of src.version letter.0

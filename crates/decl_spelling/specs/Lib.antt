@@ -1,4 +1,4 @@
-pub mod Source
+pub mod Sections
 pub mod Reading
 pub mod Codes
 pub mod Descriptors

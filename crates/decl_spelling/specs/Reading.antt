@@ -2,7 +2,7 @@
 -- stand in it by their typeOffs, so they are read by themselves first; where they are at fault, the types that were named
 -- before are known.
 use Rattle.std.specs.Prelude.{ℕ, zero, suc, List, [], ◌∷◌, ◌++◌, Bool, true, false, Result, Ok, Err, Option, Some, None, nat_lt}
-use Rattle.code_tables.specs.declared.positions.Pos.{Pos}
+use Rattle.go_values.specs.declared.positions.Pos.{Pos}
 use Rattle.wire_bytes.specs.declared.fault.ByteFault.{ByteFault}
 use Rattle.wire_bytes.specs.declared.fault.ByteFault.TheVariants as faults
 use Rattle.wire_bytes.specs.Reading.{Spot, place, ◌>>=◌}
@@ -11,10 +11,10 @@ use Rattle.wire_bytes.specs.Varint.{flag_at}
 use Rattle.wire_bytes.specs.Text.{text_in}
 use Rattle.position_codec.specs.Place.{Named, no_place, pos_of, moved_on}
 use Rattle.position_codec.specs.Position.{position_at}
-use Rattle.position_codec.specs.Paths.{path_in}
+use Rattle.file_parts.specs.Paths.{path_in}
 use Rattle.decl_spelling.specs.declared.mention.Mention.{Mention}
 use Rattle.decl_spelling.specs.declared.mention.Demand.{Demand}
-use Rattle.decl_spelling.specs.Source.{Source}
+use Rattle.decl_spelling.specs.Sections.{Sections}
 
 -- what is left of a block, the place before its next position, and the types that it has named so far
 pub record Ahead : Type 0 where
@@ -63,14 +63,14 @@ abbrev pub truth_at : Reader Bool
 truth_at a = plain a (flag_at a.spot)
 
 -- a text of the string section, by its offset
-unfoldable pub text_at : Source → Reader (List ℕ)
+unfoldable pub text_at : Sections → Reader (List ℕ)
 text_at src a = do
   offset ← number_at a
   text ← or_stop a (faults.Range (place a.spot) offset.0) (text_in src.strings offset.0)
   Ok (text, offset.1)
 
 -- the path of a package, which is the file's own or one that its index lists
-unfoldable pub path_at : Source → Reader (List ℕ)
+unfoldable pub path_at : Sections → Reader (List ℕ)
 path_at src a = do
   offset ← number_at a
   path ← or_stop a (faults.Range (place a.spot) offset.0) (path_in src.strings src.own src.paths offset.0)
@@ -81,7 +81,7 @@ placed a (Ok x) = Ok (pos_of (x.0).place, record { spot = x.1; before = moved_on
 placed a (Err f) = stop a f
 
 -- a position, spelled after the one before it in the block
-abbrev pub pos_at : Source → Reader Pos
+abbrev pub pos_at : Sections → Reader Pos
 pos_at src a = placed a (position_at src.strings a.before.place a.spot)
 
 -- a typeOff; what it names, and whether that is what its holder asks for, comes later

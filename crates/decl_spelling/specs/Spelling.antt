@@ -1,9 +1,9 @@
 -- Which bytes spell a declaration: blocks that explain each other.
 use Rattle.std.specs.Prelude.{◌≡◌, ◌≢◌, ℕ, ◌+◌, ◌*◌, ◌<◌, ◌≤◌, ◌⊎◌, List, [], ◌∷◌, Bool, true, false, IsTrue, length, drop, Some, map}
 use Rattle.std.specs.List.{Contains, All}
-use Rattle.code_tables.specs.declared.positions.Pos.{Pos}
-use Rattle.code_tables.specs.declared.constants.Const.{Const}
-use Rattle.code_tables.specs.declared.constants.Const.TheVariants.{Bool as truth, Int as whole, Str as text}
+use Rattle.go_values.specs.declared.positions.Pos.{Pos}
+use Rattle.go_values.specs.declared.constants.Const.{Const}
+use Rattle.go_values.specs.declared.constants.Const.TheVariants.{Bool as truth, Int as whole, Str as text}
 use Rattle.code_tables.specs.declared.declarations.DeclTag.{DeclTag}
 use Rattle.code_tables.specs.declared.declarations.DeclTag.TheVariants.{Var, Func, GenericFunc, Const as ConstTag, Defined, GenericDefined, Alias, GenericAlias, TypeParameter}
 use Rattle.code_tables.specs.DeclTag.{decl_tag_code}
@@ -13,7 +13,7 @@ use Rattle.position_codec.specs.Place.{no_place}
 use Rattle.type_terms.specs.Shapes.{Shape, SigOf, instance_of, sig_map, shape_types, retype}
 use Rattle.type_terms.specs.Trees.{Text, Tree, predeclared, tree_of}
 use Rattle.type_terms.specs.Declarations.{ReceiverOf, Form, var_of, function_of, constant_of, defined_of, renamed_of, type_parameter_of, receiver_map, form_map, form_types, Decl}
-use Rattle.decl_spelling.specs.Source.{Source, Basics}
+use Rattle.decl_spelling.specs.Sections.{Sections, Basics}
 use Rattle.decl_spelling.specs.Codes.{basic_of, decl_tag_of}
 use Rattle.decl_spelling.specs.Descriptors.{Sig}
 use Rattle.decl_spelling.specs.Descent.{is_parameter, is_interface, is_underlying, is_generic}
@@ -33,16 +33,16 @@ pub record Known : Type 0 where
   pub tree : Tree
 
 -- The number is the code of a predeclared type, or 32 more than the start of a block that ends before its holder.
-abbrev pub Names : Source → List Block → ℕ → Known → Type 0
+abbrev pub Names : Sections → List Block → ℕ → Known → Type 0
 Names src blocks holder x =
     ((x.number < 32) × (basic : _) × (basic_of src.version x.number ≡ Some basic) × (x.tree ≡ predeclared basic))
     ⊎ ((block : Block) × Contains blocks block × (x.number ≡ 32 + block.start) × (block.end ≤ holder) × (x.tree ≡ block.tree))
 
-abbrev pub AllNamed : Source → List Block → ℕ → List Known → Type 0
+abbrev pub AllNamed : Sections → List Block → ℕ → List Known → Type 0
 AllNamed src blocks holder = All (Names src blocks holder)
 
 -- the bytes of the data section from an offset on
-abbrev pub here : Source → ℕ → Here
+abbrev pub here : Sections → ℕ → Here
 here src start = record { left = drop start src.body; before = no_place }
 
 abbrev pub IsInstanceOf : Shape Pos Text Text Known → Type 0
@@ -50,7 +50,7 @@ IsInstanceOf (instance_of base args) = IsTrue (is_generic base.tree)
 IsInstanceOf _ = Unit {0}
 
 -- The bytes of the block spell its type, with the other blocks.
-pub record Says (src : Source) (blocks : List Block) (block : Block) : Type 0 where
+pub record Says (src : Sections) (blocks : List Block) (block : Block) : Type 0 where
   pub parts : Shape Pos Text Text Known
   pub after : Here
   pub stands : IsDescriptor src (here src block.start) (retype (λ x. x.number) parts) after
@@ -63,7 +63,7 @@ pub record Says (src : Source) (blocks : List Block) (block : Block) : Type 0 wh
 abbrev pub Apart : List Block → Type 0
 Apart blocks = (a b : Block) → Contains blocks a → Contains blocks b → (a ≡ b) ⊎ ((a.end ≤ b.start) ⊎ (b.end ≤ a.start))
 
-pub record Sound (src : Source) (blocks : List Block) : Type 0 where
+pub record Sound (src : Sections) (blocks : List Block) : Type 0 where
   pub each : (block : Block) → Contains blocks block → Says src blocks block
   pub apart : Apart blocks
 
@@ -97,7 +97,7 @@ AreParameters tparams = (0 < length tparams) × All (λ x. IsTrue (is_parameter 
 abbrev pub IsTParams : Here → List Known → Here → Type 0
 IsTParams a tparams b = IsList IsNumber a (numbers tparams) b × AreParameters tparams
 
-pub record IsReceiver (src : Source) (a : Here) (x : Receiver) (b : Here) : Type 0 where
+pub record IsReceiver (src : Sections) (a : Here) (x : Receiver) (b : Here) : Type 0 where
   pub at_name : Here
   pub at_recv : Here
   pub at_sig : Here
@@ -107,12 +107,12 @@ pub record IsReceiver (src : Source) (a : Here) (x : Receiver) (b : Here) : Type
   pub sig : IsSig src at_sig x.sig b
 
 -- the methods of a defined type, or nothing where its underlying type is any or an interface
-abbrev pub IsMethods : Source → Bool → Here → List Receiver → Here → Type 0
+abbrev pub IsMethods : Sections → Bool → Here → List Receiver → Here → Type 0
 IsMethods src true a methods b = IsList (IsReceiver src) a methods b
 IsMethods src false a methods b = (methods ≡ []) × (a ≡ b)
 
 -- the value of a constant, by how values of its type are spelled
-abbrev pub IsSpelled : Source → Spelling → Here → Const → Here → Type 0
+abbrev pub IsSpelled : Sections → Spelling → Here → Const → Here → Type 0
 IsSpelled src flag a (truth x) b = IsTruth a x b
 IsSpelled src offset a (text x) b = IsText src a x b
 IsSpelled src (number signed max) a (whole x) b = Begins (Whole signed max) a.left x b.left × (b.before ≡ a.before)
@@ -122,7 +122,7 @@ IsSpelled src spelling a value b = ⊥
 abbrev pub IsKind : ℕ → Spelling → Here → Here → Type 0
 IsKind version spelling a b = ((version ≡ 1) × (a ≡ b)) ⊎ ((version ≢ 1) × IsNumber a (2 * kind_number spelling) b)
 
-pub record IsValue (src : Source) (basics : Basics) (type : Tree) (a : Here) (value : Const) (b : Here) : Type 0 where
+pub record IsValue (src : Sections) (basics : Basics) (type : Tree) (a : Here) (value : Const) (b : Here) : Type 0 where
   pub basic : _
   pub spelling : Spelling
   pub at_value : Here
@@ -141,7 +141,7 @@ abbrev pub IsRightSide : List Known → Tree → Type 0
 IsRightSide [] tree = Unit {0}
 IsRightSide (tparam ∷ tparams) tree = is_parameter tree ≡ false
 
-abbrev pub IsForm : Source → Basics → Here → KnownForm → Here → Type 0
+abbrev pub IsForm : Sections → Basics → Here → KnownForm → Here → Type 0
 IsForm src basics a (var_of pos type) b = (next : Here) × IsPos src a pos next × IsNumber next type.number b
 IsForm src basics a (function_of pos tparams sig) b = (at_tparams at_sig : Here) × IsPos src a pos at_tparams × IsGenericList at_tparams tparams at_sig × IsSig src at_sig (numbered sig) b
 IsForm src basics a (constant_of pos type value) b = (at_type at_value : Here) × IsPos src a pos at_type × IsNumber at_type type.number at_value × IsValue src basics type.tree at_value value b
@@ -167,7 +167,7 @@ kind_of_decl (type_parameter_of pos implicit constraint) = TypeParameter
 
 -- At this offset a declaration is spelled: the byte of its kind, which the file's version has, and its parts, whose types are
 -- spelled by descriptors that stand before it.
-pub record SpellsDecl (src : Source) (basics : Basics) (start : ℕ) (decl : Decl) : Type 0 where
+pub record SpellsDecl (src : Sections) (basics : Basics) (start : ℕ) (decl : Decl) : Type 0 where
   pub blocks : List Block
   pub sound : Sound src blocks
   pub parts : KnownForm

@@ -3,8 +3,8 @@ use Rattle.std.proofs.Common.{◌≡◌, ℕ, ◌+◌, Bool, true, false, cond, 
 use Rattle.std.specs.Prelude.{slice_get}
 use Rattle.std.specs.List.{flat_map, AllByRecursion, list_any, position_or_len}
 use Rattle.std.specs.Option.{is_some, unwrap_or}
-use Rattle.code_tables.specs.declared.positions.Pos.{Pos}
-use Rattle.code_tables.proofs.Exact.{exact_bytes}
+use Rattle.go_values.specs.declared.positions.Pos.{Pos}
+use Rattle.go_values.proofs.Exact.{exact_bytes}
 use Rattle.type_terms.specs.ShapeLaws.{retype_agrees}
 use Rattle.type_terms.specs.Trees.{Text, Tree, predeclared, named, parameter, alias, level_of}
 use Rattle.type_terms.specs.TreeEquality.{same_text, same_tree, same_told}

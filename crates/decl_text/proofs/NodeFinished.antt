@@ -8,7 +8,7 @@ use Rattle.std.proofs.lemmas.List.{map-append}
 use Rattle.std.proofs.lemmas.List.Elements.{Contains-push_cases}
 use Rattle.type_terms.specs.declared.descriptors.Node.{Node}
 use Rattle.type_terms.specs.declared.descriptors.Node.TheVariants.{Predeclared}
-use Rattle.code_tables.specs.declared.positions.Pos.{Pos}
+use Rattle.go_values.specs.declared.positions.Pos.{Pos}
 use Rattle.type_terms.specs.Shapes.{retype}
 use Rattle.type_terms.specs.Trees.{Text, Tree, tree_of}
 use Rattle.type_terms.specs.TreeLevels.{level_of-tree_of}

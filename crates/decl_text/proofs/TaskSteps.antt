@@ -3,7 +3,7 @@ use Rattle.std.proofs.Common.{◌≡◌, ℕ, ◌<◌, ◌+◌, ◌*◌, true, L
 use Rattle.std.specs.List.{flat_map, AllByRecursion}
 use Rattle.std.proofs.lemmas.List.{append-nil}
 use Rattle.type_terms.specs.declared.descriptors.Node.{Node}
-use Rattle.code_tables.specs.declared.positions.Pos.{Pos}
+use Rattle.go_values.specs.declared.positions.Pos.{Pos}
 use Rattle.type_terms.specs.Shapes.{retype, shape_types}
 use Rattle.type_terms.specs.ShapeLaws.{shape_types_map}
 use Rattle.type_terms.specs.NodeShapes.{node_shape, children}

@@ -2,10 +2,10 @@
 use Rattle.std.specs.Prelude.{ℕ, ◌+◌, true, false, List, [], ◌∷◌, ◌++◌, codes, decimal, if◌then◌else◌}
 use Rattle.std.specs.List.{flat_map}
 use Rattle.std.specs.Fmt.{signed_decimal}
-use Rattle.code_tables.specs.declared.positions.Pos.{Pos}
-use Rattle.code_tables.specs.declared.qualified.QName.{QName}
-use Rattle.code_tables.specs.declared.constants.Const.{Const}
-use Rattle.code_tables.specs.declared.constants.Const.TheVariants.{Bool as Truth, Int, Str}
+use Rattle.go_values.specs.declared.positions.Pos.{Pos}
+use Rattle.go_values.specs.declared.qualified.QName.{QName}
+use Rattle.go_values.specs.declared.constants.Const.{Const}
+use Rattle.go_values.specs.declared.constants.Const.TheVariants.{Bool as Truth, Int, Str}
 use Rattle.type_terms.specs.Trees.{Text}
 use Rattle.type_terms.specs.Declarations.{ReceiverOf, Form, var_of, function_of, constant_of, defined_of, renamed_of, type_parameter_of, form_map, form_types, Decl}
 use Rattle.decl_text.specs.Printed.{printed, quoted}

@@ -1,6 +1,6 @@
 -- The text of each part of a line that nodes make, by the text of its references.
 use Rattle.std.specs.Prelude.{ℕ, List, map}
-use Rattle.code_tables.specs.declared.positions.Pos.{Pos}
+use Rattle.go_values.specs.declared.positions.Pos.{Pos}
 use Rattle.type_terms.specs.declared.descriptors.Node.{Node}
 use Rattle.type_terms.specs.declared.literals.ParamNode.{ParamNode}
 use Rattle.type_terms.specs.declared.literals.Sig.{Sig}

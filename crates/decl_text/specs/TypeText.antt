@@ -1,7 +1,7 @@
 -- The text of one level of a type, where each type that stands in it is given by the text of its reference.
 use Rattle.std.specs.Prelude.{List, [], ◌∷◌, ◌++◌, map, codes, decimal, if◌then◌else◌}
-use Rattle.code_tables.specs.declared.positions.Pos.{Pos}
-use Rattle.code_tables.specs.declared.positions.Pos.TheVariants.{Nowhere, At}
+use Rattle.go_values.specs.declared.positions.Pos.{Pos}
+use Rattle.go_values.specs.declared.positions.Pos.TheVariants.{Nowhere, At}
 use Rattle.type_terms.specs.declared.literals.Dir.{Dir}
 use Rattle.type_terms.specs.declared.literals.Dir.TheVariants.{Receive, Send, Both}
 use Rattle.type_terms.specs.Shapes.{ParamOf, SigOf, FieldOf, MethodOf, TermOf, Shape, predeclared_of, named_of, parameter_of, alias_of, pointer_of, slice_of, array_of, chan_of, map_of, func_of, struct_of, interface_of, instance_of, union_of}

@@ -16,7 +16,7 @@ use crate::references::References;
 use crate::signatures::{push_sig, put_sig};
 use crate::types::{put_bracketed, put_prefixed};
 use crate::words::{put_mark, put_position, put_value};
-use code_tables::{Const, Pos, QName};
+use go_values::{Const, Pos, QName};
 use std::alloc::AllocError;
 use type_terms::{DeclNode, Method, NodeId, Sig};
 

@@ -21,6 +21,3 @@ pub use laws::{
     a_finished_type_adds_nothing, a_walk_finishes_parts_first, types_of_one_number_have_one_line,
 };
 pub use rendering::render;
-
-#[cfg(test)]
-mod tests;

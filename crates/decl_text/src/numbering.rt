@@ -7,7 +7,7 @@ ghost use Rattle.decl_text.specs.Numbering.{numbers_at, StandsIn};
 
 use crate::references::References;
 use crate::types::put_type;
-use code_tables::Bytes;
+use go_values::Bytes;
 use indexmap::{IndexMap, IndexSet};
 use std::alloc::{AllocError, Global};
 use type_terms::{Arena, Node, NodeId};

@@ -8,7 +8,7 @@ use crate::decls::{push_decl, put_first_line, put_method_lines};
 use crate::references::References;
 use crate::walking::number_types;
 use crate::words::put_decimal;
-use code_tables::{Bytes, QName};
+use go_values::{Bytes, QName};
 use indexmap::IndexSet;
 use std::alloc::{AllocError, Global};
 use type_terms::{Arena, DeclNode};

@@ -4,7 +4,8 @@ ghost use Rattle.decl_text.specs.TypeText.{pos_text, qualified, param_name, tag_
 ghost use Rattle.decl_text.specs.DeclText.{value_text};
 
 use crate::escapes::{put_printed, put_quoted};
-use code_tables::{Basic, Const, Pos, QName};
+use code_tables::Basic;
+use go_values::{Const, Pos, QName};
 use itoa::Buffer;
 use std::alloc::AllocError;
 

@@ -63,6 +63,3 @@ fn exit_status(status: Status) -> u8 {
         Status::Limit => 6,
     }
 }
-
-#[cfg(test)]
-mod tests;

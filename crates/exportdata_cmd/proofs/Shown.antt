@@ -9,7 +9,7 @@ use Rattle.std.proofs.lemmas.List.Concat.{flat_map_single}
 use Rattle.wire_bytes.specs.declared.fault.ByteFault.{ByteFault}
 use Rattle.command_words.specs.Texts.{Name}
 use Rattle.name_index.specs.FullFile.{FullFile}
-use Rattle.session.specs.Answers.{Outcome, Gives}
+use Rattle.session.specs.Answers.{Outcome, HasOutcome}
 use Rattle.session.specs.Asked.{read_for}
 use Rattle.exportdata_cmd.specs.Printed.{Line}
 use Rattle.exportdata_cmd.specs.Showing.{Answer, IsAnswer, answer_text, answer_texts, shown_status}
@@ -132,10 +132,10 @@ module _ (file : FullFile) where
       rw (one_more names k name here) (one_looked_up new (take k names) answers name one (all_grown old new stays (take k names) answers are) is)
 
   pub reads_on : (old new : List (ℕ × Outcome)) (names : List Name) (k : ℕ) (name : Name) → slice_get names k ≡ Some name
-      → ((number : ℕ) (outcome : Outcome) → read_for new number ≡ Some outcome → (read_for old number ≡ Some outcome) ⊎ Gives file name.path name.name number outcome)
+      → ((number : ℕ) (outcome : Outcome) → read_for new number ≡ Some outcome → (read_for old number ≡ Some outcome) ⊎ HasOutcome file name.path name.name number outcome)
       → OnlyRead file old (take k names) → OnlyRead file new (take (suc k) names)
   reads_on old new names k name here only before number outcome is =
-      elim (only number outcome is) as (λ _. (one : Name) × Contains (take (suc k) names) one × Gives file one.path one.name number outcome) [
+      elim (only number outcome is) as (λ _. (one : Name) × Contains (take (suc k) names) one × HasOutcome file one.path one.name number outcome) [
         | inl was ↦
             let b = before number outcome was in
             (b.0, rw (one_more names k name here) (Contains-append_left (take k names) (name ∷ []) b.0 b.1), b.2)

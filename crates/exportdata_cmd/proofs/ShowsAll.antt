@@ -11,7 +11,7 @@ use Rattle.command_words.specs.Texts.{Word, Source, Name}
 use Rattle.command_words.specs.Forms.{show, IsForm}
 use Rattle.name_index.specs.FullFile.{FullFile, listed}
 use Rattle.name_index.specs.Envelope.{Envelope}
-use Rattle.session.specs.Answers.{Outcome, Gives}
+use Rattle.session.specs.Answers.{Outcome, HasOutcome}
 use Rattle.session.specs.Asked.{read_for, declared_numbers}
 use Rattle.session.proofs.Outcomes.{one_outcome}
 use Rattle.exportdata_cmd.specs.Causes.{HasBytes}
@@ -24,7 +24,7 @@ use Rattle.exportdata_cmd.proofs.Shown.{right, for_names}
 
 -- a name of a file gives one number and one outcome
 abbrev pub GivesOne : FullFile → Type 0
-GivesOne file = (path name : List ℕ) (i j : ℕ) (a b : Outcome) → Gives file path name i a → Gives file path name j b → (i ≡ j) × (a ≡ b)
+GivesOne file = (path name : List ℕ) (i j : ℕ) (a b : Outcome) → HasOutcome file path name i a → HasOutcome file path name j b → (i ≡ j) × (a ≡ b)
 
 all_bytes : (xs : List ℕ) → ((i : ℕ) → get_or xs i 0 < 256) → AllByRecursion (λ b. b < 256) xs
 all_bytes [] each = tt
@@ -46,7 +46,7 @@ module _ (file : FullFile) (one : GivesOne file) (read : List (ℕ × Outcome)) 
   answer_at (n ∷ names) (a ∷ answers) are name (zero, within, at) = (a, subst (λ x. IsLookedUp file read x a) at are.0)
   answer_at (n ∷ names) (a ∷ answers) are name (suc k, within, at) = answer_at names answers are.1 name (k, omega (arith, within), at)
 
-  was_read : (name : Name) (number : ℕ) (decl : Decl) (answer : LookedUp) → IsLookedUp file read name answer → Gives file name.path name.name number (Ok decl) → (d : Decl) × (read_for read number ≡ Some (Ok d))
+  was_read : (name : Name) (number : ℕ) (decl : Decl) (answer : LookedUp) → IsLookedUp file read name answer → HasOutcome file name.path name.name number (Ok decl) → (d : Decl) × (read_for read number ≡ Some (Ok d))
   was_read name number decl Unknown is gives = absurd (is number gives.0 gives.1)
   was_read name number decl (Damaged fault) is gives = absurd (not_damaged decl fault (one name.path name.name number is.0 (Ok decl) (Err fault) gives is.1).1)
   was_read name number decl (Declared other) (d, others, read_is) gives =

@@ -4,7 +4,7 @@ use Rattle.std.specs.List.{Contains}
 use Rattle.type_terms.specs.Declarations.{Decl}
 use Rattle.command_words.specs.Texts.{Name}
 use Rattle.name_index.specs.FullFile.{FullFile}
-use Rattle.session.specs.Answers.{Outcome, Gives, IsUnknown}
+use Rattle.session.specs.Answers.{Outcome, HasOutcome, IsUnknown}
 use Rattle.session.specs.Asked.{read_for}
 use Rattle.exportdata_cmd.specs.Showing.{Answer, unknown, damaged, declared}
 use Rattle.exportdata_cmd.specs.declared.showing.LookedUp.{LookedUp}
@@ -36,8 +36,8 @@ IsKnown read (Declared number) = (decl : Decl) × (read_for read number ≡ Some
 -- What a name is: it isn't listed, or was read.
 abbrev pub IsLookedUp : FullFile → List (ℕ × Outcome) → Name → LookedUp → Type 0
 IsLookedUp file read name Unknown = IsUnknown file name.path name.name
-IsLookedUp file read name (Damaged fault) = (number : ℕ) × Gives file name.path name.name number (Err fault)
-IsLookedUp file read name (Declared number) = (decl : Decl) × Gives file name.path name.name number (Ok decl) × (read_for read number ≡ Some (Ok decl))
+IsLookedUp file read name (Damaged fault) = (number : ℕ) × HasOutcome file name.path name.name number (Err fault)
+IsLookedUp file read name (Declared number) = (decl : Decl) × HasOutcome file name.path name.name number (Ok decl) × (read_for read number ≡ Some (Ok decl))
 
 abbrev pub AreLookedUp : FullFile → List (ℕ × Outcome) → List Name → List LookedUp → Type 0
 AreLookedUp file read [] [] = Unit {0}
@@ -47,4 +47,4 @@ AreLookedUp file read (name ∷ names) (one ∷ others) = IsLookedUp file read n
 
 -- only what the names give was read
 abbrev pub OnlyRead : FullFile → List (ℕ × Outcome) → List Name → Type 0
-OnlyRead file read names = (number : ℕ) (outcome : Outcome) → read_for read number ≡ Some outcome → (name : Name) × Contains names name × Gives file name.path name.name number outcome
+OnlyRead file read names = (number : ℕ) (outcome : Outcome) → read_for read number ≡ Some outcome → (name : Name) × Contains names name × HasOutcome file name.path name.name number outcome

@@ -7,7 +7,7 @@ use Rattle.wire_bytes.specs.declared.fault.ByteFault.{ByteFault}
 use Rattle.type_terms.specs.Declarations.{Decl}
 use Rattle.command_words.specs.Texts.{Name}
 use Rattle.name_index.specs.FullFile.{FullFile}
-use Rattle.session.specs.Answers.{Gives, IsUnknown}
+use Rattle.session.specs.Answers.{HasOutcome, IsUnknown}
 use Rattle.decl_text.specs.Printed.{printed}
 use Rattle.decl_text.specs.DeclText.{decl_text}
 use Rattle.exportdata_cmd.specs.Printed.{Line, line, fault_text}
@@ -23,8 +23,8 @@ pub data Answer : Type 0 where
 -- The file doesn't list it, its declaration has a first fault, or it is declared so.
 abbrev pub IsAnswer : FullFile → Name → Answer → Type 0
 IsAnswer file name unknown = IsUnknown file name.path name.name
-IsAnswer file name (damaged fault) = (number : ℕ) × Gives file name.path name.name number (Err fault)
-IsAnswer file name (declared decl) = (number : ℕ) × Gives file name.path name.name number (Ok decl)
+IsAnswer file name (damaged fault) = (number : ℕ) × HasOutcome file name.path name.name number (Err fault)
+IsAnswer file name (declared decl) = (number : ℕ) × HasOutcome file name.path name.name number (Ok decl)
 
 abbrev pub label : Name → List ℕ
 label name = printed name.path ++ codes ":" ++ printed name.name
@@ -44,7 +44,7 @@ decoded_line count all = line (codes "decoded " ++ decimal count ++ codes " of "
 
 -- a name with this number in the index was asked for and is declared
 abbrev pub IsDecoded : FullFile → List Name → ℕ → Type 0
-IsDecoded file names number = (name : Name) × Contains names name × (decl : Decl) × Gives file name.path name.name number (Ok decl)
+IsDecoded file names number = (name : Name) × Contains names name × (decl : Decl) × HasOutcome file name.path name.name number (Ok decl)
 
 -- so many names of the index were asked for and are declared, each counted once
 pub record AreDecoded (file : FullFile) (names : List Name) (count : ℕ) : Type 0 where

@@ -13,6 +13,3 @@ mod top;
 
 pub use exits::Status;
 pub use top::{refuse_words, run};
-
-#[cfg(test)]
-mod tests;

@@ -6,9 +6,10 @@ ghost use Rattle.exportdata_cmd.specs.Causes.{HasBytes, IsCause};
 
 use crate::error_line::ErrorLine;
 use command_words::SourceWord;
-use name_index::{Image, OpenFault, read_full_file};
+use name_index::{Image, read_full_file};
 use outside::{FetchFault, Files};
 use std::alloc::Global;
+use wire_bytes::ReadFault;
 
 /// The most bytes of a file that are taken in: 16 MiB.
 const FILE_LIMIT: usize = 16_777_216;
@@ -50,10 +51,10 @@ pub fn open_source<'a, F: Files>(
     };
     match read_full_file(alloc, bytes, source.path.as_bytes()) {
         Ok(image) => Ok(image),
-        Err(OpenFault::Bytes(fault)) => Err(ErrorLine::Damaged {
+        Err(ReadFault::Bytes(fault)) => Err(ErrorLine::Damaged {
             label: source.label,
             fault,
         }),
-        Err(OpenFault::OutOfMemory) => Err(ErrorLine::NoMemory),
+        Err(ReadFault::OutOfMemory) => Err(ErrorLine::NoMemory),
     }
 }

@@ -4,7 +4,7 @@ ghost use Rattle.std.specs.Prelude.{◌≡◌, ◌⊎◌, ◌∷◌, ◌++◌, L
 ghost use Rattle.std.specs.List.{AllByRecursion};
 ghost use Rattle.command_words.specs.Texts.{Name};
 ghost use Rattle.command_words.specs.Forms.{name_of, names_of};
-ghost use Rattle.session.specs.Answers.{Outcome, Gives};
+ghost use Rattle.session.specs.Answers.{Outcome, HasOutcome};
 ghost use Rattle.session.specs.Asked.{read_by, read_for, lent_outcome, IsLentInside};
 ghost use Rattle.exportdata_cmd.specs.Showing.{answer_text, answer_texts, decoded_line, shown_status};
 ghost use Rattle.exportdata_cmd.specs.LookedUp.{answer_of, answered, declared_by, IsKnown, IsLookedUp, AreLookedUp, OnlyRead};
@@ -13,9 +13,9 @@ ghost use Rattle.exportdata_cmd.specs.Putting.{sink, PutsLines};
 use crate::exits::Status;
 use crate::printing::{write_damaged_line, write_decoded_line, write_unknown_line};
 use crate::putting::{PutFault, put_line};
-use code_tables::{Bytes, QName};
 use command_words::{NameWord, NameWords};
 use decl_text::render;
+use go_values::{Bytes, QName};
 use outside::Sink;
 use session::{Declaration, LookUpFault, Objects};
 use std::alloc::{AllocError, Global};
@@ -72,7 +72,7 @@ fn look_up_name(
     ensures answer { IfOk result (λ answer. IsLookedUp objects.old.file (read_by objects.new) (name_of name.now) answer) }
     ensures stays { (number : ℕ) (outcome : Outcome) → read_for (read_by objects.old) number ≡ Some outcome → read_for (read_by objects.new) number ≡ Some outcome }
     ensures only { (number : ℕ) (outcome : Outcome) → read_for (read_by objects.new) number ≡ Some outcome
-        → (read_for (read_by objects.old) number ≡ Some outcome) ⊎ Gives objects.old.file (name_of name.now).path (name_of name.now).name number outcome }
+        → (read_for (read_by objects.old) number ≡ Some outcome) ⊎ HasOutcome objects.old.file (name_of name.now).path (name_of name.now).name number outcome }
     ensures file { objects.new.file ≡ objects.old.file }
 {
     let Some(number) = objects.look_up(alloc, name.path.as_bytes(), name.name.as_bytes())? else {

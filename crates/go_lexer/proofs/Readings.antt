@@ -4,7 +4,7 @@ use Rattle.std.specs.Prelude.{IfOk, IfErr}
 use Rattle.go_lexer.specs.declared.token_kinds.Token.{Token}
 use Rattle.go_lexer.specs.declared.token_kinds.LexFault.{LexFault}
 use Rattle.go_lexer.specs.declared.token_kinds.LexFault.TheVariants as fault
-use Rattle.go_lexer.specs.Lexing.{lexed_source, Gives, Fails}
+use Rattle.go_lexer.specs.Lexing.{lexed_source, LexesAs, Fails}
 use Rattle.go_lexer.specs.TokenGrammar.{IsLexed, IsFirstFault}
 use Rattle.go_lexer.proofs.Whole.{source_takes, source_again}
 
@@ -14,12 +14,12 @@ Answer = Result (Vec Token Global) LexFault
 abbrev items_of : Vec Token Global → List Token
 items_of found = found.items
 
-pub is_found : (r : Answer) (source : List ℕ) → Gives items_of r (lexed_source source) → IfOk r (λ found. IsLexed source found.items)
+pub is_found : (r : Answer) (source : List ℕ) → LexesAs items_of r (lexed_source source) → IfOk r (λ found. IsLexed source found.items)
 is_found (Ok found) source h = source_takes source found.items h
 is_found (Err f) source h = tt
 
-pub is_only : (r : Answer) (source : List ℕ) (items : List Token) → IsLexed source items → Gives items_of r (lexed_source source) → Gives items_of r (Ok items)
-is_only r source items l h = subst (λ read. Gives items_of r read) (source_again source items l) h
+pub is_only : (r : Answer) (source : List ℕ) (items : List Token) → IsLexed source items → LexesAs items_of r (lexed_source source) → LexesAs items_of r (Ok items)
+is_only r source items l h = subst (λ read. LexesAs items_of r read) (source_again source items l) h
 
 fault_by : (f : LexFault) (source : List ℕ) → Fails f (lexed_source source) → (f ≡ fault.OutOfMemory) ⊎ IsFirstFault source f
 fault_by (fault.BadUtf8 at) source h = inr h
@@ -31,7 +31,7 @@ fault_by (fault.BadEscape at) source h = inr h
 fault_by (fault.BadNumber at) source h = inr h
 fault_by fault.OutOfMemory source h = inl refl
 
-pub is_fault : (r : Answer) (source : List ℕ) → Gives items_of r (lexed_source source) → IfErr r (λ f. (f ≡ fault.OutOfMemory) ⊎ IsFirstFault source f)
+pub is_fault : (r : Answer) (source : List ℕ) → LexesAs items_of r (lexed_source source) → IfErr r (λ f. (f ≡ fault.OutOfMemory) ⊎ IsFirstFault source f)
 is_fault (Ok found) source h = tt
 is_fault (Err f) source h = fault_by f source h
 

@@ -45,10 +45,10 @@ ended : (total : ℕ) (owed : Option ℕ) (ts : List Token) → finish File tota
 ended total None ts e = let h : [] ≡ ts = (cc) in subst (AreTokens total None []) h end_of_file
 ended total (Some at) ts e = let h : inserted at ∷ [] ≡ ts = (cc) in subst (AreTokens total (Some at) []) h (semicolon_at_end_of_file at)
 
-abbrev Gives : ℕ → ℕ → Type 0
-Gives total n = (owed : Option ℕ) (rest : List ℕ) (ts : List Token) → length rest ≤ n → lexed File total n owed rest ≡ Ok ts → AreTokens total owed rest ts
+abbrev LexesAs : ℕ → ℕ → Type 0
+LexesAs total n = (owed : Option ℕ) (rest : List ℕ) (ts : List Token) → length rest ≤ n → lexed File total n owed rest ≡ Ok ts → AreTokens total owed rest ts
 
-after_blank : (total n : ℕ) (owed : Option ℕ) (cs rest : List ℕ) (breaks : Bool) (ts : List Token) → Gives total n → length rest ≤ n → IsPiece cs (blank breaks rest)
+after_blank : (total n : ℕ) (owed : Option ℕ) (cs rest : List ℕ) (breaks : Bool) (ts : List Token) → LexesAs total n → length rest ≤ n → IsPiece cs (blank breaks rest)
     → with_front (paid_if breaks owed) (lexed File total n (owed_after breaks owed) rest) ≡ Ok ts → AreTokens total owed cs ts
 after_blank total n owed cs rest false ts g l p e =
     let h = front_ok [] (lexed File total n owed rest) ts e in
@@ -60,7 +60,7 @@ after_blank total n (Some at) cs rest true ts g l p e =
     let h = front_ok (inserted at ∷ []) (lexed File total n None rest) ts e in
     subst (AreTokens total (Some at) cs) h.2 (semicolon_at_end_of_line at cs rest h.0 p (g None rest h.0 l h.1))
 
-after_token : (total n : ℕ) (owed : Option ℕ) (cs rest : List ℕ) (kind : TokenKind) (owes : Bool) (ts : List Token) → Gives total n → length rest ≤ n → IsPiece cs (token kind owes rest)
+after_token : (total n : ℕ) (owed : Option ℕ) (cs rest : List ℕ) (kind : TokenKind) (owes : Bool) (ts : List Token) → LexesAs total n → length rest ≤ n → IsPiece cs (token kind owes rest)
     → with_front (spanned kind (place total cs) (place total rest) ∷ []) (lexed File total n (owes_at owes (place total rest)) rest) ≡ Ok ts → AreTokens total owed cs ts
 after_token total n owed cs rest kind false ts g l p e =
     let h = front_ok (spanned kind (place total cs) (place total rest) ∷ []) (lexed File total n None rest) ts e in
@@ -69,7 +69,7 @@ after_token total n owed cs rest kind true ts g l p e =
     let h = front_ok (spanned kind (place total cs) (place total rest) ∷ []) (lexed File total n (Some (place total rest)) rest) ts e in
     subst (AreTokens total owed cs) h.2 (last_of_line_token owed kind cs rest h.0 p (g (Some (place total rest)) rest h.0 l h.1))
 
-after_piece : (total n : ℕ) (owed : Option ℕ) (cs : List ℕ) (x : Piece) (ts : List Token) → Gives total n → Stands cs x → IsShorter (suc n) x → lexed_by File total (lexed File total n) owed cs x ≡ Ok ts → AreTokens total owed cs ts
+after_piece : (total n : ℕ) (owed : Option ℕ) (cs : List ℕ) (x : Piece) (ts : List Token) → LexesAs total n → Stands cs x → IsShorter (suc n) x → lexed_by File total (lexed File total n) owed cs x ≡ Ok ts → AreTokens total owed cs ts
 after_piece total n owed cs (blank breaks rest) ts g s l e = after_blank total n owed cs rest breaks ts g (omega arith) s e
 after_piece total n owed cs (token kind owes rest) ts g s l e = after_token total n owed cs rest kind owes ts g (omega arith) s e
 after_piece total n owed cs (stop breach at) ts g s l e = cc
@@ -79,7 +79,7 @@ wider m n (blank breaks rest) le h = omega arith
 wider m n (token kind owes rest) le h = omega arith
 wider m n (stop breach at) le h = tt
 
-tokens_take : (total n : ℕ) → Gives total n
+tokens_take : (total n : ℕ) → LexesAs total n
 tokens_take total zero owed [] ts l e = ended total owed ts e
 tokens_take total zero owed (c ∷ cs) ts l e = absurd (omega arith)
 tokens_take total (suc n) owed [] ts l e = ended total owed ts e

@@ -88,6 +88,6 @@ abbrev pub Fails : {Y : Type 0} → LexFault → Result Y LexFault → Type 0
 Fails fault.OutOfMemory read = Unit {0}
 Fails f read = read ≡ Err f
 
-abbrev pub Gives : {X Y : Type 0} → (X → Y) → Result X LexFault → Result Y LexFault → Type 0
-Gives view (Ok x) read = read ≡ Ok (view x)
-Gives view (Err f) read = Fails f read
+abbrev pub LexesAs : {X Y : Type 0} → (X → Y) → Result X LexFault → Result Y LexFault → Type 0
+LexesAs view (Ok x) read = read ≡ Ok (view x)
+LexesAs view (Err f) read = Fails f read

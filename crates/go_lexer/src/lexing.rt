@@ -1,6 +1,6 @@
 ghost use Rattle.std.specs.Prelude.{◌≡◌, ◌≤◌, ◌++◌, ◌∷◌, ◌⊎◌, ℕ, List, [], length, OnOk, IfOk, IfErr};
 ghost use Rattle.std.specs.Str.{chars};
-ghost use Rattle.go_lexer.specs.Lexing.{cut_string, cut_comment, fault_at, place, paid, paid_if, owed_after, owes_at, finish, with_front, lexed_text, lexed_source, Gives};
+ghost use Rattle.go_lexer.specs.Lexing.{cut_string, cut_comment, fault_at, place, paid, paid_if, owed_after, owes_at, finish, with_front, lexed_text, lexed_source, LexesAs};
 ghost use Rattle.go_lexer.specs.TokenGrammar.{IsLexed, IsFirstFault};
 ghost use Rattle.go_lexer.specs.declared.token_kinds.Token.{Token};
 ghost use Rattle.go_lexer.specs.declared.token_kinds.LexFault.{LexFault};
@@ -113,7 +113,7 @@ fn finish(
     ending: Ending,
     total: u32,
 ) -> Result<Vec<Token>, LexFault>
-    ensures { Gives (λ v. v.items) result (with_front tokens.items (finish ending total owed)) }
+    ensures { LexesAs (λ v. v.items) result (with_front tokens.items (finish ending total owed)) }
 {
     let mut tokens = tokens;
     match ending {
@@ -135,7 +135,7 @@ fn place(total: u32, rest: &str) -> u32
 
 /// The tokens of a text that ends at this place.
 fn lex_text(alloc: Global, text: &str, ending: Ending, total: u32) -> Result<Vec<Token>, LexFault>
-    ensures { Gives (λ v. v.items) result (lexed_text ending total None (chars text.now)) }
+    ensures { LexesAs (λ v. v.items) result (lexed_text ending total None (chars text.now)) }
 {
     let mut tokens = Vec::new(alloc);
     let mut owed = None;
@@ -166,7 +166,7 @@ fn lex_text(alloc: Global, text: &str, ending: Ending, total: u32) -> Result<Vec
 #[tactic(auto, unfolding(crate::specs::Lexing::lexed_source))]
 fn read_tokens(alloc: Global, src: &[u8]) -> Result<Vec<Token>, LexFault>
     requires { length src.now ≤ 4194304 }
-    ensures { Gives (λ v. v.items) result (lexed_source src.now) }
+    ensures { LexesAs (λ v. v.items) result (lexed_source src.now) }
 {
     let (text, ending) = read_source(src);
     lex_text(alloc, after_mark(text), ending, text.len() as u32)
@@ -179,11 +179,11 @@ pub fn tokens(alloc: Global, src: &[u8]) -> Result<Vec<Token>, LexFault>
     requires { length src.now ≤ 4194304 }
     // What is found is spelled there, and what is spelled there is found, unless memory runs out.
     ensures found { IfOk result (λ found. IsLexed src.now found.items) }
-    ensures only { (items : List Token) → IsLexed src.now items → Gives (λ found. found.items) result (Ok items) }
+    ensures only { (items : List Token) → IsLexed src.now items → LexesAs (λ found. found.items) result (Ok items) }
 
     // Any other fault is the first one.
     ensures fault { IfErr result (λ f. (f ≡ LexFault.OutOfMemory) ⊎ IsFirstFault src.now f) }
-    ensures exact { Gives (λ found. found.items) result (lexed_source src.now) }
+    ensures exact { LexesAs (λ found. found.items) result (lexed_source src.now) }
 {
     read_tokens(alloc, src)
 }
@@ -195,6 +195,3 @@ pub fn one_reading()
     ensures fault { (source : List ℕ) (f g : LexFault) → IsFirstFault source f → IsFirstFault source g → f ≡ g }
     ensures some { (source : List ℕ) → ((items : List Token) × IsLexed source items) ⊎ ((f : LexFault) × IsFirstFault source f) }
 {}
-
-#[cfg(test)]
-mod tests;

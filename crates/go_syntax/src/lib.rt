@@ -29,22 +29,3 @@ pub use tree::{
     ConstSpec, ElemExpr, Expr, FieldExpr, FuncDecl, Import, NameExpr, ParamExpr, Receiver, SigExpr,
     SourceFile, TParam, TermExpr, Top, TypeExpr, TypeSpec, VarSpec,
 };
-
-#[cfg(test)]
-mod constant_tests;
-#[cfg(test)]
-mod depth_tests;
-#[cfg(test)]
-mod expression_tests;
-#[cfg(test)]
-mod function_tests;
-#[cfg(test)]
-mod generic_tests;
-#[cfg(test)]
-mod instance_tests;
-#[cfg(test)]
-mod tests;
-#[cfg(test)]
-mod text_tests;
-#[cfg(test)]
-mod type_tests;

@@ -6,7 +6,7 @@ use crate::faults::{Fault, Stop};
 use crate::reading::{Kind, ident, onward, past};
 use crate::symbols::{Ident, Symbol, Tokens};
 use crate::tree::NameExpr;
-use code_tables::Bytes;
+use go_values::Bytes;
 use sqlite_items::Items;
 use std::alloc::{AllocError, Global};
 use string_literals::unquoted;

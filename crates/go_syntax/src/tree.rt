@@ -1,6 +1,6 @@
 use crate::symbols::{Ident, Operator};
-use code_tables::Bytes;
 use go_lexer::Token;
+use go_values::Bytes;
 use sqlite_items::{Boxed, Items};
 
 /// The name of a type, of this package or of another. It begins at `at`.

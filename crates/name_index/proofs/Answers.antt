@@ -5,25 +5,25 @@ use Rattle.wire_bytes.specs.declared.fault.ByteFault.{ByteFault}
 use Rattle.wire_bytes.specs.Reading.{Fails, GivesBy}
 use Rattle.wire_bytes.proofs.Steps.{done_is}
 use Rattle.wire_bytes.proofs.Spellings.{IsBytes}
-use Rattle.name_index.specs.declared.fault.OpenFault.{OpenFault}
-use Rattle.name_index.specs.declared.fault.OpenFault.TheVariants as errors
+use Rattle.wire_bytes.specs.declared.fault.ReadFault.{ReadFault}
+use Rattle.wire_bytes.specs.declared.fault.ReadFault.TheVariants as errors
 use Rattle.name_index.specs.declared.records.Layout.{Layout}
 use Rattle.name_index.specs.FullFile.{FullFile}
 use Rattle.name_index.specs.Envelope.{Envelope}
 use Rattle.name_index.specs.FirstBreach.{full_file_of}
-use Rattle.position_codec.specs.Paths.{ArePaths}
+use Rattle.file_parts.specs.Paths.{ArePaths}
 use Rattle.name_index.specs.Records.{file_of, fault_of, spelled_paths, IsLayout, IsOpen}
 use Rattle.name_index.specs.Opening.{Opens}
 use Rattle.name_index.proofs.Files.{file_takes, file_again}
 
-pub is_envelope : (own bytes : List ℕ) (r : Result Layout OpenFault) → IsBytes bytes → GivesBy fault_of (λ l. file_of own bytes l) r (full_file_of own bytes) → IfOk r (λ l. Envelope own bytes (file_of own bytes l))
+pub is_envelope : (own bytes : List ℕ) (r : Result Layout ReadFault) → IsBytes bytes → GivesBy fault_of (λ l. file_of own bytes l) r (full_file_of own bytes) → IfOk r (λ l. Envelope own bytes (file_of own bytes l))
 is_envelope own bytes (Ok l) fits exact = file_takes own bytes (file_of own bytes l) fits exact
 is_envelope own bytes (Err e) fits exact = tt
 
 pub is_the_file : (own bytes : List ℕ) (x file : FullFile) → full_file_of own bytes ≡ Ok x → Envelope own bytes file → x ≡ file
 is_the_file own bytes x file exact env = done_is x file (sym exact ∙ file_again own bytes file env)
 
-pub is_no_file : (own bytes : List ℕ) (e : OpenFault) (file : FullFile) → Fails (fault_of e) (full_file_of own bytes) → Envelope own bytes file → Opens (Err e) file
+pub is_no_file : (own bytes : List ℕ) (e : ReadFault) (file : FullFile) → Fails (fault_of e) (full_file_of own bytes) → Envelope own bytes file → Opens (Err e) file
 is_no_file own bytes (errors.Bytes f) file failed env = let there = file_again own bytes file env in absurd (no_both there failed)
   where
     no_both : {r : Result FullFile ByteFault} → r ≡ Ok file → r ≡ Err f → ⊥

@@ -12,7 +12,7 @@ use Rattle.wire_bytes.proofs.Spellings.{IsBytes}
 use Rattle.wire_bytes.proofs.Texts.{IsBytes-drop}
 use Rattle.wire_bytes.proofs.Many.{Takes}
 use Rattle.wire_bytes.proofs.Cursors.{uvarint_at_takes, uvarint_at_again, byte_at_takes, byte_at_again, bytes_at_takes}
-use Rattle.position_codec.specs.Paths.{ArePaths}
+use Rattle.file_parts.specs.Paths.{ArePaths}
 use Rattle.name_index.specs.FullFile.{Section, content, Package, FullFile, named}
 use Rattle.name_index.specs.Envelope.{Envelope, IsPackage}
 use Rattle.name_index.specs.FirstBreach.{FirstBreach, Header, header_at, section_at, index_at, full_file_of}

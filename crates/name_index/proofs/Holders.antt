@@ -9,9 +9,9 @@ use Rattle.std.proofs.lemmas.Option.{slice_get_within, get_or_from_slice_get}
 use Rattle.name_index.specs.declared.records.EntryRecord.{EntryRecord}
 use Rattle.name_index.specs.declared.records.PackageRecord.{PackageRecord}
 use Rattle.name_index.specs.FullFile.{Entry, Package, Listed, listed_in, listed}
-use Rattle.position_codec.specs.Order.{Rise}
+use Rattle.file_parts.specs.Order.{Rise}
 use Rattle.name_index.specs.Lookup.{heading_at, names_at, name_at, as_listed, IsListed}
-use Rattle.position_codec.specs.Paths.{text_of, IsInside}
+use Rattle.file_parts.specs.Paths.{text_of, IsInside}
 use Rattle.name_index.specs.Records.{entry_of, package_of, packages_of, paths_of, name_count, IsNumbered, IsHolder, IsPackageInside, IsSearchable}
 use Rattle.std.specs.Cmp.Lexicographic.{pointwise}
 use Rattle.name_index.proofs.Orders.{text_itself}

@@ -1,12 +1,12 @@
 -- The parts of an open file, as they are lent.
 use Rattle.std.proofs.Common.{◌≡◌, ℕ, ◌+◌, ◌-◌, List, [], ◌∷◌, length, map, take, drop, slice_range, ◌⊎◌, refl, sym, ap, subst, ◌∙◌, arith}
 use Rattle.std.specs.List.{AllByRecursion}
-use Rattle.position_codec.specs.declared.spans.TextSpan.{TextSpan}
-use Rattle.position_codec.specs.declared.parts.Parts.{Parts}
-use Rattle.position_codec.specs.declared.parts.Shape3.TheVariants.{Full}
-use Rattle.position_codec.specs.Order.{IsBelow, RiseFrom}
-use Rattle.position_codec.specs.FileParts.{strings_of, paths_of, IsOfFile}
-use Rattle.position_codec.specs.Paths.{text_of, IsInside, ArePaths, meant}
+use Rattle.file_parts.specs.declared.spans.TextSpan.{TextSpan}
+use Rattle.file_parts.specs.declared.parts.Parts.{Parts}
+use Rattle.file_parts.specs.declared.parts.FileForm.TheVariants.{Full}
+use Rattle.file_parts.specs.Order.{IsBelow, RiseFrom}
+use Rattle.file_parts.specs.FileParts.{strings_of, paths_of, IsOfFile}
+use Rattle.file_parts.specs.Paths.{text_of, IsInside, ArePaths, meant}
 use Rattle.name_index.specs.declared.records.PackageRecord.{PackageRecord}
 use Rattle.name_index.specs.declared.records.Layout.{Layout}
 use Rattle.name_index.specs.FullFile.{content, Package, named}

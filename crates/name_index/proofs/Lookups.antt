@@ -4,7 +4,7 @@ use Rattle.std.proofs.lemmas.Option.{slice_get-map, slice_get_read}
 use Rattle.name_index.specs.declared.records.PackageRecord.{PackageRecord}
 use Rattle.name_index.specs.FullFile.{Package, named}
 use Rattle.name_index.specs.Lookup.{heading_at}
-use Rattle.position_codec.specs.Paths.{text_of}
+use Rattle.file_parts.specs.Paths.{text_of}
 use Rattle.name_index.specs.Records.{package_of, packages_of}
 
 named_first : (own : List ℕ) (ps : List Package) (p : Package) → slice_get ps 0 ≡ Some p → heading_at (named own ps) 0 ≡ Some (own, p.name)

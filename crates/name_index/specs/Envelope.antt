@@ -4,8 +4,8 @@ use Rattle.wire_bytes.specs.Reading.{InOrder}
 use Rattle.wire_bytes.specs.Uvarint.{BeginsWith}
 use Rattle.wire_bytes.specs.Text.{Text}
 use Rattle.name_index.specs.FullFile.{content, Entry, Package, FullFile, named}
-use Rattle.position_codec.specs.Order.{Rise}
-use Rattle.position_codec.specs.Paths.{ArePaths}
+use Rattle.file_parts.specs.Order.{Rise}
+use Rattle.file_parts.specs.Paths.{ArePaths}
 
 -- the offset of a text in the string section
 abbrev pub TextOffset : List ℕ → List ℕ → List ℕ → List ℕ → Type 0

@@ -1,22 +1,22 @@
 -- What opening a file answers.
 use Rattle.std.specs.Prelude.{◌≡◌, ℕ, List, map, Result, Ok, Err}
-use Rattle.position_codec.specs.declared.parts.Parts.{Parts}
-use Rattle.position_codec.specs.declared.parts.Shape3.TheVariants.{Full}
-use Rattle.position_codec.specs.Paths.{meant}
-use Rattle.position_codec.specs.FileParts.{paths_of}
+use Rattle.file_parts.specs.declared.parts.Parts.{Parts}
+use Rattle.file_parts.specs.declared.parts.FileForm.TheVariants.{Full}
+use Rattle.file_parts.specs.Paths.{meant}
+use Rattle.file_parts.specs.FileParts.{paths_of}
 use Rattle.name_index.specs.Envelope.{Envelope}
-use Rattle.name_index.specs.declared.fault.OpenFault.{OpenFault}
-use Rattle.name_index.specs.declared.fault.OpenFault.TheVariants as errors
+use Rattle.wire_bytes.specs.declared.fault.ReadFault.{ReadFault}
+use Rattle.wire_bytes.specs.declared.fault.ReadFault.TheVariants as errors
 use Rattle.name_index.specs.FullFile.{FullFile}
 use Rattle.name_index.specs.FirstBreach.{FirstBreach}
 
 -- an error that speaks of the bytes names the first breach
-abbrev pub NamesBreach : List ℕ → List ℕ → OpenFault → Type 0
+abbrev pub NamesBreach : List ℕ → List ℕ → ReadFault → Type 0
 NamesBreach own bytes (errors.Bytes f) = FirstBreach own bytes f
 NamesBreach own bytes errors.OutOfMemory = Unit {0}
 
 -- this file was opened, unless memory ran out
-abbrev pub Opens : Result FullFile OpenFault → FullFile → Type 0
+abbrev pub Opens : Result FullFile ReadFault → FullFile → Type 0
 Opens (Ok image) file = image ≡ file
 Opens (Err errors.OutOfMemory) file = Unit {0}
 Opens (Err (errors.Bytes f)) file = ⊥

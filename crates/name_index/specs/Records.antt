@@ -2,9 +2,9 @@
 use Rattle.std.specs.Prelude.{◌≡◌, ℕ, ◌+◌, ◌^◌, ◌<◌, ◌≤◌, List, [], ◌∷◌, length, map, Option, Some, None, slice_get}
 use Rattle.std.specs.List.{AllByRecursion}
 use Rattle.wire_bytes.specs.declared.fault.ByteFault.{ByteFault}
-use Rattle.name_index.specs.declared.fault.OpenFault.{OpenFault}
-use Rattle.name_index.specs.declared.fault.OpenFault.TheVariants as errors
-use Rattle.position_codec.specs.Paths.{text_of, IsInside, ArePaths}
+use Rattle.wire_bytes.specs.declared.fault.ReadFault.{ReadFault}
+use Rattle.wire_bytes.specs.declared.fault.ReadFault.TheVariants as errors
+use Rattle.file_parts.specs.Paths.{text_of, IsInside, ArePaths}
 use Rattle.name_index.specs.declared.records.EntryRecord.{EntryRecord}
 use Rattle.name_index.specs.declared.records.PackageRecord.{PackageRecord}
 use Rattle.name_index.specs.declared.full.header.HeaderRecord.{HeaderRecord}
@@ -36,7 +36,7 @@ IsNumbered n [] = Unit {0}
 IsNumbered n (p ∷ ps) = (p.first ≡ n) × IsNumbered (n + length p.entries.items) ps
 
 -- the fault of the bytes that an error names
-abbrev pub fault_of : OpenFault → Option ByteFault
+abbrev pub fault_of : ReadFault → Option ByteFault
 fault_of (errors.Bytes f) = Some f
 fault_of errors.OutOfMemory = None
 

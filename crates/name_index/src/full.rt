@@ -6,19 +6,18 @@ ghost use Rattle.wire_bytes.specs.Reading.{GivesBy};
 ghost use Rattle.name_index.specs.FullFile.{content};
 ghost use Rattle.name_index.specs.Envelope.{Envelope};
 ghost use Rattle.name_index.specs.FirstBreach.{section_at, full_file_of};
-ghost use Rattle.position_codec.specs.Paths.{ArePaths};
+ghost use Rattle.file_parts.specs.Paths.{ArePaths};
 ghost use Rattle.name_index.specs.Records.{section_of, file_of, fault_of, IsLayout, spelled_paths};
 
 mod entries;
 mod header;
 mod packages;
 
-use crate::fault::OpenFault;
 use crate::records::{Layout, SectionRecord, path_spans, section_bytes};
 use header::read_header;
 use packages::read_index;
 use std::alloc::Global;
-use wire_bytes::{ByteFault, Cursor};
+use wire_bytes::{ByteFault, Cursor, ReadFault};
 
 /// A section of this size, which lies inside the file.
 #[tactic(auto, unfolding(crate::specs::FirstBreach::section_at))]
@@ -38,7 +37,7 @@ fn read_section(cursor: &mut Cursor<'_>, size: u64) -> Result<SectionRecord, Byt
 
 /// The parts of a full file of the path `own`, or the first breach of its form. It goes over the bytes once, and looks
 /// at no byte of the data section.
-pub(crate) fn read_layout(alloc: Global, bytes: &[u8], own: &[u8]) -> Result<Layout, OpenFault>
+pub(crate) fn read_layout(alloc: Global, bytes: &[u8], own: &[u8]) -> Result<Layout, ReadFault>
     requires { length bytes.now ≤ 16777216 }
     ensures inside { IfOk result (λ l. IsLayout bytes.now l) }
     ensures found { IfOk result (λ l. Envelope own.now bytes.now (file_of own.now bytes.now l)) }
@@ -49,7 +48,7 @@ pub(crate) fn read_layout(alloc: Global, bytes: &[u8], own: &[u8]) -> Result<Lay
 }
 
 #[tactic(auto, unfolding(crate::specs::FirstBreach::full_file_of))]
-fn read_parts(alloc: Global, bytes: &[u8], own: &[u8]) -> Result<Layout, OpenFault>
+fn read_parts(alloc: Global, bytes: &[u8], own: &[u8]) -> Result<Layout, ReadFault>
     requires { length bytes.now ≤ 16777216 }
     ensures inside { IfOk result (λ l. IsLayout bytes.now l) }
     ensures paths { IfOk result (λ l. ArePaths own.now (spelled_paths bytes.now l)) }
@@ -63,7 +62,7 @@ fn read_parts(alloc: Global, bytes: &[u8], own: &[u8]) -> Result<Layout, OpenFau
     let packages = read_index(alloc, &mut cursor, own, texts, body.len)?;
     if !cursor.is_at_end() {
         let at = cursor.place() as u64;
-        return Err(OpenFault::Bytes(ByteFault::Trailing { at }));
+        return Err(ReadFault::Bytes(ByteFault::Trailing { at }));
     }
     let paths = path_spans(alloc, packages.as_slice())?;
     Ok(Layout {

@@ -7,16 +7,16 @@ ghost use Rattle.name_index.specs.Envelope.{Envelope};
 ghost use Rattle.name_index.specs.FirstBreach.{FirstBreach, full_file_of};
 ghost use Rattle.name_index.specs.Lookup.{heading_at, names_at, name_at, as_listed, IsListed};
 ghost use Rattle.name_index.specs.Records.{fault_of};
-ghost use Rattle.position_codec.specs.FileParts.{IsOfFile};
+ghost use Rattle.file_parts.specs.FileParts.{IsOfFile};
 ghost use Rattle.name_index.specs.Opening.{Opens, NamesBreach, ArePartsOf};
 
-use crate::fault::OpenFault;
 use crate::full::read_layout;
 use crate::lookup::{ListedRecord, count_names, entry, heading, look_up, name, names};
 use crate::records::{Layout, section_bytes};
-use position_codec::{Parts, Shape3};
+use file_parts::{FileForm, Parts};
 use std::alloc::Global;
 use std::marker::Model;
+use wire_bytes::ReadFault;
 
 /// A full file and its index. Contracts see the file's parts. It holds the bytes of the file once; names and paths are
 /// lent from them. An index of n names and p packages takes 12 bytes a name and 56 a package besides.
@@ -40,7 +40,7 @@ impl Model for Image {
 
 /// Opens a full file of the package path `path`, of format version 1 or 2. It goes over the index once, looks at no byte
 /// of the data section, and keeps the bytes.
-pub fn read_full_file(alloc: Global, bytes: Vec<u8>, path: &[u8]) -> Result<Image, OpenFault>
+pub fn read_full_file(alloc: Global, bytes: Vec<u8>, path: &[u8]) -> Result<Image, ReadFault>
     requires { length bytes.items ≤ 16777216 }
     // The image is what stands in the bytes.
     ensures found { IfOk result (λ image. Envelope path.now bytes.items image) }
@@ -69,7 +69,7 @@ impl Image {
             body_at: u64::from(self.layout.body.at),
             body_len: u64::from(self.layout.body.len),
             version: self.layout.version,
-            form: Shape3::Full,
+            form: FileForm::Full,
             own: self.own.as_slice(),
             paths: self.layout.paths.as_slice(),
         }

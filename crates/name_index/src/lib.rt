@@ -1,16 +1,11 @@
 //! The index of a full file of export data: which packages and names it lists, and where each declaration starts.
 #![tactic(auto)]
 
-mod fault;
 mod full;
 mod image;
 mod laws;
 mod lookup;
 mod records;
 
-pub use fault::OpenFault;
 pub use image::{Image, read_full_file};
 pub use laws::{file_or_breach, listed_once};
-
-#[cfg(test)]
-mod tests;

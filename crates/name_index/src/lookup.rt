@@ -7,7 +7,7 @@ ghost use Rattle.name_index.specs.Lookup.{heading_at, name_at, as_listed, IsList
 ghost use Rattle.name_index.specs.Records.{IsPackageInside, IsNumbered, IsHolder, IsSearchable, name_count, package_of, packages_of, paths_of};
 
 use crate::records::PackageRecord;
-use position_codec::{find_titled, text_of};
+use file_parts::{find_titled, text_of};
 
 /// The path and the name of package `k`.
 pub(crate) fn heading<'a>(

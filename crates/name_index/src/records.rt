@@ -4,7 +4,7 @@ ghost use Rattle.std.specs.Prelude.{◌≡◌, ◌≤◌, ◌+◌, length, map, 
 ghost use Rattle.name_index.specs.FullFile.{content};
 ghost use Rattle.name_index.specs.Records.{section_of};
 
-use position_codec::{TextSpan, Titled};
+use file_parts::{TextSpan, Titled};
 use std::alloc::{AllocError, Global};
 
 /// A name, and where its declaration starts in the data section.

@@ -15,6 +15,3 @@ pub use gates::{Gate, OpenGate};
 pub use memory_files::MemoryFiles;
 pub use memory_sink::MemorySink;
 pub use sinks::{Sink, SinkFault};
-
-#[cfg(test)]
-mod tests;

@@ -2,6 +2,4 @@ pub mod Differences
 pub mod Places
 pub mod Written
 pub mod Readings
-pub mod Halves
-pub mod PathNames
 pub mod EveryPlace

@@ -14,10 +14,10 @@ use Rattle.wire_bytes.proofs.Cursors.{uvarint_at_again}
 use Rattle.wire_bytes.proofs.Texts.{text_again}
 use Rattle.wire_bytes.proofs.Spellings.{same_number}
 use Rattle.wire_bytes.proofs.PrefixCodes.{Found, prefix_code, signed_even, signed_odd}
-use Rattle.code_tables.specs.declared.positions.Pos.{Pos}
-use Rattle.code_tables.specs.declared.positions.Pos.TheVariants.{Nowhere, At}
-use Rattle.position_codec.specs.declared.fault.PosFault.{PosFault}
-use Rattle.position_codec.specs.declared.fault.PosFault.TheVariants as answers
+use Rattle.go_values.specs.declared.positions.Pos.{Pos}
+use Rattle.go_values.specs.declared.positions.Pos.TheVariants.{Nowhere, At}
+use Rattle.wire_bytes.specs.declared.fault.ReadFault.{ReadFault}
+use Rattle.wire_bytes.specs.declared.fault.ReadFault.TheVariants as answers
 use Rattle.position_codec.specs.Place.{Place, Named, delta, half, is_odd, moved, place_of, pos_of}
 use Rattle.position_codec.specs.Position.{ColumnAlone, ColumnAndLine, ColumnLineAndFile, Position, moved_at, file_at, line_at, behind_line, behind_column, position_at}
 use Rattle.position_codec.specs.Calls.{SpellsNone, ReadsPosition}
@@ -92,7 +92,7 @@ position_again strings before s a rest now p e = by p.spelled
             ∙ ap (λ (o : Option (List ℕ)). or_fault (faults.Range (place t) all.offset) o >>= λ f. demand (not (pointwise nat_eq f before.file)) (faults.Number (place t)) >>= λ _. Ok ((all.offset, f), onward s rest)) (text_again strings all.offset now.place.file all.there)
             ∙ ap (λ (b : Bool). demand (not b) (faults.Number (place t)) >>= λ _. Ok ((all.offset, now.place.file), onward s rest)) (others now.place.file before.file all.other_file)
 
-pub spells_none : (strings : List ℕ) (before after : Named) (old new : Spot) (result : Result Pos PosFault) → ReadsPosition result before after old new (position_at strings before.place old)
+pub spells_none : (strings : List ℕ) (before after : Named) (old new : Spot) (result : Result Pos ReadFault) → ReadsPosition result before after old new (position_at strings before.place old)
     → IfErr result (SpellsNone strings before.place old.left)
 spells_none strings before after old new (Ok found) read = tt
 spells_none strings before after old new (Err (answers.Bytes f)) read = λ now rest begins.

@@ -1,18 +1,18 @@
 -- What the calls answer.
 use Rattle.std.specs.Prelude.{◌≡◌, ℕ, List, ◌++◌, Result, Ok, Err, nat_eq, if◌then◌else◌}
 use Rattle.std.specs.Cmp.Lexicographic.{pointwise}
-use Rattle.code_tables.specs.declared.positions.Pos.{Pos}
+use Rattle.go_values.specs.declared.positions.Pos.{Pos}
 use Rattle.wire_bytes.specs.declared.fault.ByteFault.{ByteFault}
 use Rattle.wire_bytes.specs.Reading.{Spot}
 use Rattle.wire_bytes.specs.Begins.{Begins, Appends}
 use Rattle.wire_bytes.specs.Section.{with_text}
-use Rattle.position_codec.specs.declared.fault.PosFault.{PosFault}
-use Rattle.position_codec.specs.declared.fault.PosFault.TheVariants as answers
+use Rattle.wire_bytes.specs.declared.fault.ReadFault.{ReadFault}
+use Rattle.wire_bytes.specs.declared.fault.ReadFault.TheVariants as answers
 use Rattle.position_codec.specs.Place.{Place, Named, pos_of, moved_on}
 use Rattle.position_codec.specs.Position.{Position}
 
 -- no place is spelled in front, unless it wasn't read for want of memory
-abbrev pub SpellsNone : List ℕ → Place → List ℕ → PosFault → Type 0
+abbrev pub SpellsNone : List ℕ → Place → List ℕ → ReadFault → Type 0
 SpellsNone strings before bytes (answers.Bytes f) = (now : Named) (rest : List ℕ) → Begins (Position strings before) bytes now rest → ⊥
 SpellsNone strings before bytes answers.OutOfMemory = Unit {0}
 
@@ -24,7 +24,7 @@ pub record Found (strings : List ℕ) (before after : Named) (old new : Spot) (p
   pub moved : after ≡ moved_on before now
 
 -- what was read, and where the cursor and the place before the next one then are; a refusal leaves both
-abbrev pub ReadsPosition : Result Pos PosFault → Named → Named → Spot → Spot → Result (Named × Spot) ByteFault → Type 0
+abbrev pub ReadsPosition : Result Pos ReadFault → Named → Named → Spot → Spot → Result (Named × Spot) ByteFault → Type 0
 ReadsPosition (Ok pos) before after old new read = (now : Named) × (read ≡ Ok (now, new)) × (pos ≡ pos_of now.place) × (after ≡ moved_on before now)
 ReadsPosition (Err (answers.Bytes f)) before after old new read = (read ≡ Err f) × (after ≡ before) × (new ≡ old)
 ReadsPosition (Err answers.OutOfMemory) before after old new read = (after ≡ before) × (new ≡ old)

@@ -1,7 +1,7 @@
 -- Places, and numbers that go on from one to the next.
 use Rattle.std.specs.Prelude.{ℕ, ◌+◌, ◌-◌, ◌/◌, ◌%◌, ◌^◌, ℤ, pos, negsuc, ◌+ℤ◌, ◌-ℤ◌, ◌*ℤ◌, ◌==◌, ◌&&◌, nat_lt, if◌then◌else◌, List, [], length, Bool, Option, Some, None}
-use Rattle.code_tables.specs.declared.positions.Pos.{Pos}
-use Rattle.code_tables.specs.declared.positions.Pos.TheVariants.{Nowhere, At}
+use Rattle.go_values.specs.declared.positions.Pos.{Pos}
+use Rattle.go_values.specs.declared.positions.Pos.TheVariants.{Nowhere, At}
 
 -- a place in a source file; no file, line 0 and column 0 stand for none
 pub record Place : Type 0 where

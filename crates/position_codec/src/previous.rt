@@ -3,7 +3,7 @@
 ghost use Rattle.std.specs.Prelude.{◌≡◌, None};
 ghost use Rattle.position_codec.specs.Place.{no_place};
 
-use code_tables::Bytes;
+use go_values::Bytes;
 use std::alloc::Global;
 use std::marker::Model;
 

@@ -8,17 +8,16 @@ ghost use Rattle.wire_bytes.specs.Uvarint.{BeginsWith};
 ghost use Rattle.wire_bytes.specs.Varint.{Varint};
 ghost use Rattle.position_codec.specs.Place.{half, moved, moved_on, pos_of};
 ghost use Rattle.position_codec.specs.Calls.{Found, ReadsPosition, SpellsNone};
-ghost use Rattle.position_codec.specs.FileParts.{strings_of};
+ghost use Rattle.file_parts.specs.FileParts.{strings_of};
 ghost use Rattle.position_codec.specs.Position.{Position, moved_at, file_at, line_at, position_at};
 ghost use Rattle.position_codec.specs.Steps.{now_of};
 
 use crate::deltas::{is_odd, moved};
-use crate::fault::PosFault;
 use crate::parts::Parts;
 use crate::previous::PrevPos;
-use code_tables::{Bytes, Pos};
+use go_values::{Bytes, Pos};
 use std::alloc::{AllocError, Global};
-use wire_bytes::{ByteFault, Cursor, text_at, uvarint_of};
+use wire_bytes::{ByteFault, Cursor, ReadFault, text_at, uvarint_of};
 
 /// Reads the next position as it is spelled after the one before it, and makes it the one before the next. After a refusal
 /// the cursor and the position before the next one are as they were.
@@ -31,7 +30,7 @@ pub fn read_full(
     cursor: &mut Cursor<'_>,
     parts: &Parts<'_>,
     prev: &mut PrevPos,
-) -> Result<Pos, PosFault>
+) -> Result<Pos, ReadFault>
     requires strings { parts.now.strings_at + parts.now.strings_len ≤ length parts.now.file.now }
     requires body { parts.now.body_at + parts.now.body_len ≤ length parts.now.file.now }
     ensures found { IfOk result (λ pos. Found (strings_of parts.now) prev.old prev.new cursor.old cursor.new pos) }
@@ -46,7 +45,7 @@ fn read_next(
     cursor: &mut Cursor<'_>,
     strings: &[u8],
     prev: &mut PrevPos,
-) -> Result<Pos, PosFault>
+) -> Result<Pos, ReadFault>
     ensures found { IfOk result (λ pos. Found strings.now prev.old prev.new cursor.old cursor.new pos) }
     ensures exact { ReadsPosition result prev.old prev.new cursor.old cursor.new (position_at strings.now prev.old.place cursor.old) }
 {

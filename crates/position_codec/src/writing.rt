@@ -10,7 +10,7 @@ ghost use Rattle.position_codec.specs.Calls.{Wrote, IsMore, with_file};
 
 use crate::deltas::delta;
 use crate::previous::PrevPos;
-use code_tables::{Bytes, Pos};
+use go_values::{Bytes, Pos};
 use std::alloc::{AllocError, Global};
 use wire_bytes::{Strings, Writer};
 

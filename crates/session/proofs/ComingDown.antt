@@ -8,35 +8,35 @@ use Rattle.code_tables.specs.declared.predeclared.Basic.{Basic}
 use Rattle.name_index.specs.FullFile.{FullFile, Listed, listed}
 use Rattle.name_index.specs.Lookup.{as_listed, IsListed}
 use Rattle.name_index.specs.Envelope.{Envelope}
-use Rattle.decl_spelling.specs.Source.{HoldsBytes}
+use Rattle.decl_spelling.specs.Sections.{HoldsBytes}
 use Rattle.decl_spelling.specs.Heads.{Lead, to_basic, to_name, head_lead}
 use Rattle.decl_spelling.proofs.Decided.{strings_are, body_is}
 use Rattle.decl_spelling.proofs.LeadsAgain.{head_again}
 use Rattle.decl_spelling.proofs.LeadsTaken.{AreBytes, head_taken}
-use Rattle.session.specs.Sources.{source_in}
+use Rattle.session.specs.OpenFile.{sections_in}
 use Rattle.session.specs.Names.{LeadsTo, ComesDownTo, at_once, onward, offset_among, lead_of, led_by, comes_down_within, comes_down}
 use Rattle.session.proofs.Bytes.{holds_bytes}
 use Rattle.session.proofs.Listed.{listed_of_offset, offset_of_listed}
 
 -- ---- one head
 
-leads_to : (file : FullFile) → HoldsBytes (source_in file) → (path name : List ℕ) (lead : Lead) → lead_of file path name ≡ Some lead → LeadsTo file path name lead
+leads_to : (file : FullFile) → HoldsBytes (sections_in file) → (path name : List ℕ) (lead : Lead) → lead_of file path name ≡ Some lead → LeadsTo file path name lead
 leads_to file holds path name lead e = go (offset_among path name (listed file.packages)) refl e
   where
-    are : AreBytes (source_in file)
-    are = record { strings = strings_are (source_in file) holds; body = body_is (source_in file) holds }
+    are : AreBytes (sections_in file)
+    are = record { strings = strings_are (sections_in file) holds; body = body_is (sections_in file) holds }
 
-    go : (o : Option ℕ) → offset_among path name (listed file.packages) ≡ o → option_and_then (head_lead (source_in file)) o ≡ Some lead → LeadsTo file path name lead
+    go : (o : Option ℕ) → offset_among path name (listed file.packages) ≡ o → option_and_then (head_lead (sections_in file)) o ≡ Some lead → LeadsTo file path name lead
     go None at e = absurd cc
-    go (Some offset) at e = let there = listed_of_offset file path name offset at in (there.0, offset, there.1, head_taken (source_in file) offset lead are e)
+    go (Some offset) at e = let there = listed_of_offset file path name offset at in (there.0, offset, there.1, head_taken (sections_in file) offset lead are e)
 
 leads_again : (own bytes : List ℕ) (file : FullFile) → Envelope own bytes file → (path name : List ℕ) (lead : Lead) → LeadsTo file path name lead → lead_of file path name ≡ Some lead
 leads_again own bytes file env path name lead leads =
-    ap (option_and_then (head_lead (source_in file))) (offset_of_listed own bytes file env path name leads.0 leads.1 leads.2) ∙ head_again (source_in file) leads.1 lead leads.3
+    ap (option_and_then (head_lead (sections_in file))) (offset_of_listed own bytes file env path name leads.0 leads.1 leads.2) ∙ head_again (sections_in file) leads.1 lead leads.3
 
 -- ---- what is found is come down to
 
-found_within : (file : FullFile) → HoldsBytes (source_in file) → (n : ℕ) (path name : List ℕ) (basic : Basic) → comes_down_within file n path name ≡ Some basic → ComesDownTo file basic path name
+found_within : (file : FullFile) → HoldsBytes (sections_in file) → (n : ℕ) (path name : List ℕ) (basic : Basic) → comes_down_within file n path name ≡ Some basic → ComesDownTo file basic path name
 found_within file holds zero path name basic e = absurd cc
 found_within file holds (suc n) path name basic e = go (lead_of file path name) refl e (found_within file holds n)
   where

@@ -18,7 +18,7 @@ use Rattle.type_terms.specs.Extensions.{extends_decl, extends_below}
 use Rattle.name_index.specs.FullFile.{FullFile, Listed, listed}
 use Rattle.name_index.specs.Lookup.{as_listed, IsListed}
 use Rattle.session.specs.declared.objects.LookUpFault.{LookUpFault}
-use Rattle.session.specs.Answers.{Outcome, IsOutcomeAt, Gives}
+use Rattle.session.specs.Answers.{Outcome, IsOutcomeAt, HasOutcome}
 use Rattle.session.specs.Asked.{Asked, read_by, read_for, Kept, outcome_of, read_of, IsInside, IsRead, AreRead}
 
 -- ---- look-ups
@@ -85,7 +85,7 @@ are_read_stays old new grown file [] all = tt
 are_read_stays old new grown file (x ∷ kept) all =
     let is = all.0 in
     let outcome = outcome_stays old new grown x.1 is.0 in
-    ((inside_stays old new grown x.1 is.0, is.1, is.2, subst (Gives file is.1 is.2 x.0) (sym outcome) is.3), are_read_stays old new grown file kept all.1)
+    ((inside_stays old new grown x.1 is.0, is.1, is.2, subst (HasOutcome file is.1 is.2 x.0) (sym outcome) is.3), are_read_stays old new grown file kept all.1)
 
 -- ---- a name is read
 
@@ -93,15 +93,15 @@ one_listed : (ls : List Listed) (k : ℕ) (a b : Listed) → slice_get ls k ≡ 
 one_listed ls k a b at_a at_b = cc
 
 -- what a number gives, it gives under its name
-pub gives_name : (file : FullFile) (path name other_path other_name : List ℕ) (number offset : ℕ) (outcome : Outcome) → IsListed file.packages number path name offset → Gives file other_path other_name number outcome
-    → Gives file path name number outcome
+pub gives_name : (file : FullFile) (path name other_path other_name : List ℕ) (number offset : ℕ) (outcome : Outcome) → IsListed file.packages number path name offset → HasOutcome file other_path other_name number outcome
+    → HasOutcome file path name number outcome
 gives_name file path name other_path other_name number offset outcome at gives =
     let same = one_listed (listed file.packages) number (as_listed other_path other_name gives.0) (as_listed path name offset) gives.1 at in
     (offset, at, subst (λ (l : Listed). IsOutcomeAt file l.offset outcome) same gives.2)
 
 -- The name with this number was read: it has an outcome, which it gives.
 abbrev pub HasOutcome : FullFile → List ℕ → List ℕ → ℕ → List (ℕ × Outcome) → Type 0
-HasOutcome file path name number read = (outcome : Outcome) × Gives file path name number outcome × (read_for read number ≡ Some outcome)
+HasOutcome file path name number read = (outcome : Outcome) × HasOutcome file path name number outcome × (read_for read number ≡ Some outcome)
 
 pub was_read : (file : FullFile) (nodes : List Node) (kept : List Kept) (path name : List ℕ) (number offset : ℕ) → AreRead file nodes kept → IsListed file.packages number path name offset
     → is_some (lookup (is_at (nat_cmp number)) kept) ≡ true → HasOutcome file path name number (read_of nodes kept)
@@ -164,7 +164,7 @@ not_kept file old new before after number grown all is = record {
 
 -- it was read under a name
 abbrev pub IsNamed : FullFile → List Node → ℕ → Result DeclNode ByteFault → Type 0
-IsNamed file nodes number x = (path name : List ℕ) × Gives file path name number (outcome_of nodes x)
+IsNamed file nodes number x = (path name : List ℕ) × HasOutcome file path name number (outcome_of nodes x)
 
 pub now_kept : (file : FullFile) (old new : Contents) (before after : List Kept) (number : ℕ) (x : Result DeclNode ByteFault) → Extends old new → AreRead file old.nodes before → is_some (lookup (is_at (nat_cmp number)) before) ≡ false
     → IsInside (length new.nodes) x → IsNamed file new.nodes number x → after ≡ insert_entry nat_cmp before number x → IsSet before after number x → IsKept file old new before after number

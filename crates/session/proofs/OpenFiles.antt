@@ -1,14 +1,14 @@
 -- What an open full file lends to the readers of its declarations is what stands in the file.
 use Rattle.std.proofs.Common.{◌≡◌, ℕ, ◌+◌, ◌-◌, List, [], ◌∷◌, map, take, drop, refl, sym, ap, ◌∙◌, subst, arith}
 use Rattle.std.specs.Prelude.{slice_range}
-use Rattle.position_codec.specs.declared.parts.Parts.{Parts}
-use Rattle.position_codec.specs.Order.{IsBelow, RiseFrom}
-use Rattle.position_codec.specs.Paths.{ArePaths, ArePathsIn, meant}
-use Rattle.position_codec.specs.FileParts.{IsOfFile, paths_of, strings_of, body_of}
+use Rattle.file_parts.specs.declared.parts.Parts.{Parts}
+use Rattle.file_parts.specs.Order.{IsBelow, RiseFrom}
+use Rattle.file_parts.specs.Paths.{ArePaths, ArePathsIn, meant}
+use Rattle.file_parts.specs.FileParts.{IsOfFile, paths_of, strings_of, body_of}
 use Rattle.name_index.specs.FullFile.{content, Package, FullFile}
 use Rattle.name_index.specs.Opening.{ArePartsOf}
-use Rattle.decl_reader.specs.Calls.{source_of}
-use Rattle.session.specs.Sources.{own_path, spelled_paths, source_in}
+use Rattle.decl_reader.specs.Calls.{sections_of}
+use Rattle.session.specs.OpenFile.{own_path, spelled_paths, sections_in}
 
 none_below : (a : List ℕ) → IsBelow a [] → ⊥
 none_below [] h = cc
@@ -38,7 +38,7 @@ are_spelled own (first ∷ others) (p ∷ ps) are is =
 part_is : (bytes : List ℕ) (at len : ℕ) → slice_range bytes at (at + len) ≡ take len (drop at bytes)
 part_is bytes at len = let n : at + len - at ≡ len = omega arith in ap (λ n. take n (drop at bytes)) n
 
-pub source_is : (file : FullFile) (p : Parts) → ArePartsOf file p → IsOfFile p → source_of p ≡ source_in file
+pub source_is : (file : FullFile) (p : Parts) → ArePartsOf file p → IsOfFile p → sections_of p ≡ sections_in file
 source_is file p are of_file =
     let full : ArePaths p.own.now (paths_of p) = subst (λ form. ArePathsIn form p.own.now (paths_of p)) are.form of_file.paths in
     let spelled = are_spelled p.own.now (paths_of p) file.packages full are.paths in

@@ -11,7 +11,7 @@ use Rattle.type_terms.specs.Arenas.{Contents, AllBelow}
 use Rattle.type_terms.specs.Declarations.{decl_nodes}
 use Rattle.type_terms.specs.Environments.{decl_of}
 use Rattle.name_index.specs.FullFile.{FullFile}
-use Rattle.session.specs.Answers.{Outcome, Gives}
+use Rattle.session.specs.Answers.{Outcome, HasOutcome}
 use Rattle.session.specs.declared.objects.Declaration.{Declaration}
 
 -- what was read for the name with the number
@@ -57,7 +57,7 @@ IsInside size (Err fault) = Unit {0}
 
 -- its nodes are in the arena, and it is what the name with the number gives
 abbrev pub IsRead : FullFile → List Node → Kept → Type 0
-IsRead file nodes x = IsInside (length nodes) x.1 × (path name : List ℕ) × Gives file path name x.0 (outcome_of nodes x.1)
+IsRead file nodes x = IsInside (length nodes) x.1 × (path name : List ℕ) × HasOutcome file path name x.0 (outcome_of nodes x.1)
 
 abbrev pub AreRead : FullFile → List Node → List Kept → Type 0
 AreRead file nodes kept = AllByRecursion (IsRead file nodes) kept

@@ -1,4 +1,4 @@
-pub mod Sources
+pub mod OpenFile
 pub mod Names
 pub mod Answers
 pub mod Asked

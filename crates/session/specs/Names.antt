@@ -5,13 +5,13 @@ use Rattle.std.specs.Cmp.Lexicographic.{pointwise}
 use Rattle.code_tables.specs.declared.predeclared.Basic.{Basic}
 use Rattle.name_index.specs.FullFile.{FullFile, Listed, listed}
 use Rattle.name_index.specs.Lookup.{IsListed}
-use Rattle.decl_spelling.specs.Source.{Basics}
+use Rattle.decl_spelling.specs.Sections.{Basics}
 use Rattle.decl_spelling.specs.Heads.{Lead, to_basic, to_name, IsHead, head_lead}
-use Rattle.session.specs.Sources.{source_in}
+use Rattle.session.specs.OpenFile.{sections_in}
 
 -- the index lists the name, and the head of its declaration leads there
 abbrev pub LeadsTo : FullFile → List ℕ → List ℕ → Lead → Type 0
-LeadsTo file path name lead = (number offset : ℕ) × IsListed file.packages number path name offset × IsHead (source_in file) offset lead
+LeadsTo file path name lead = (number offset : ℕ) × IsListed file.packages number path name offset × IsHead (sections_in file) offset lead
 
 -- Its head leads to a predeclared type, or on to a name that comes down to it.
 pub data ComesDownTo (file : FullFile) (basic : Basic) : List ℕ → List ℕ → Type 0 where
@@ -31,7 +31,7 @@ offset_among path name [] = None
 offset_among path name (l ∷ ls) = cond (is_named path name l) (Some l.offset) (offset_among path name ls)
 
 abbrev pub lead_of : FullFile → List ℕ → List ℕ → Option Lead
-lead_of file path name = option_and_then (head_lead (source_in file)) (offset_among path name (listed file.packages))
+lead_of file path name = option_and_then (head_lead (sections_in file)) (offset_among path name (listed file.packages))
 
 -- a predeclared type, or what the next name comes down to
 abbrev pub led_by : Basics → Option Lead → Option Basic

@@ -7,11 +7,11 @@ ghost use Rattle.std.specs.Ordering.{nat_cmp};
 ghost use Rattle.type_terms.specs.Arenas.{Extends};
 ghost use Rattle.type_terms.specs.Declarations.{Decl};
 ghost use Rattle.name_index.specs.Lookup.{IsListed};
-ghost use Rattle.session.specs.Answers.{Outcome, Gives, IsUnknown};
+ghost use Rattle.session.specs.Answers.{Outcome, HasOutcome, IsUnknown};
 ghost use Rattle.session.specs.Asked.{read_by, read_for, declared_numbers, outcome_of, IsInside, lent_outcome, IsLentInside};
 
 use crate::names::Session;
-use decl_reader::{ReadFault, read_decl};
+use decl_reader::{DeclFault, read_decl};
 use std::alloc::Global;
 use std::collections::BTreeMap;
 use std::marker::{Brand, Model};
@@ -77,7 +77,7 @@ impl<'a> Objects<'a> {
         name: &[u8],
     ) -> Result<Option<u32>, LookUpFault>
         ensures unknown { result ≡ Ok None → IsUnknown self.old.file path.now name.now }
-        ensures found { (number : ℕ) → result ≡ Ok (Some number) → (outcome : Outcome) × Gives self.old.file path.now name.now number outcome × (read_for (read_by self.new) number ≡ Some outcome) }
+        ensures found { (number : ℕ) → result ≡ Ok (Some number) → (outcome : Outcome) × HasOutcome self.old.file path.now name.now number outcome × (read_for (read_by self.new) number ≡ Some outcome) }
         ensures stays { (number : ℕ) (outcome : Outcome) → read_for (read_by self.old) number ≡ Some outcome → read_for (read_by self.new) number ≡ Some outcome }
         ensures only { (number : ℕ) (outcome : Outcome) → read_for (read_by self.new) number ≡ Some outcome → (read_for (read_by self.old) number ≡ Some outcome) ⊎ (result ≡ Ok (Some number)) }
         ensures file { self.new.file ≡ self.old.file }
@@ -128,7 +128,7 @@ fn read_outcome(
     arena: &mut Arena,
 ) -> Result<Result<DeclNode, ByteFault>, LookUpFault>
     requires listed { (path name : _) × (offset : ℕ) × IsListed session.now.image.now.packages number path name offset }
-    ensures outcome { IfOk result (λ outcome. (path name : _) × Gives session.now.image.now path name number (outcome_of arena.new.nodes outcome)) }
+    ensures outcome { IfOk result (λ outcome. (path name : _) × HasOutcome session.now.image.now path name number (outcome_of arena.new.nodes outcome)) }
     ensures inside { IfOk result (IsInside (length arena.new.nodes)) }
     ensures extends { Extends arena.old arena.new }
     ensures full { IsErrOf result LookUpFault.Nodes → length arena.new.nodes ≡ arena.new.limit }
@@ -147,7 +147,7 @@ fn read_counted<L: Ledger>(
     requires name { blank.name ≡ L.name }
     requires parts { blank.parts ≡ L.parts }
     requires some { 0 < blank.parts }
-    ensures outcome { IfOk result (λ outcome. (path name : _) × Gives session.now.image.now path name number (outcome_of arena.new.nodes outcome)) }
+    ensures outcome { IfOk result (λ outcome. (path name : _) × HasOutcome session.now.image.now path name number (outcome_of arena.new.nodes outcome)) }
     ensures inside { IfOk result (IsInside (length arena.new.nodes)) }
     ensures extends { Extends arena.old arena.new }
     ensures full { IsErrOf result LookUpFault.Nodes → length arena.new.nodes ≡ arena.new.limit }
@@ -165,8 +165,8 @@ fn read_counted<L: Ledger>(
         &mut steps,
     ) {
         Ok(node) => Ok(Ok(node)),
-        Err(ReadFault::Bytes(fault)) => Ok(Err(fault)),
-        Err(ReadFault::Nodes) => Err(LookUpFault::Nodes),
-        Err(ReadFault::OutOfMemory) => Err(LookUpFault::OutOfMemory),
+        Err(DeclFault::Bytes(fault)) => Ok(Err(fault)),
+        Err(DeclFault::Nodes) => Err(LookUpFault::Nodes),
+        Err(DeclFault::OutOfMemory) => Err(LookUpFault::OutOfMemory),
     }
 }

@@ -5,6 +5,3 @@ mod escapes;
 mod literals;
 
 pub use literals::{each_has_value, one_value, unquoted};
-
-#[cfg(test)]
-mod tests;

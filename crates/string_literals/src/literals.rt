@@ -5,7 +5,7 @@ ghost use Rattle.go_lexer.specs.Grammar.{IsStringText, Each};
 ghost use Rattle.go_lexer.specs.Characters.{double_quote, back_quote};
 
 use crate::escapes::{Meaning, Piece, append, escape};
-use code_tables::Bytes;
+use go_values::Bytes;
 use std::alloc::{AllocError, Global};
 
 /// What a byte between double quotes stands for, with the bytes behind it that belong to it.

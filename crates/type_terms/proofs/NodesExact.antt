@@ -5,8 +5,9 @@ use Rattle.std.specs.Cmp.{booleans_Decides}
 use Rattle.std.specs.Cmp.Lexicographic.{pointwise}
 use Rattle.std.proofs.lemmas.Bool.{and_parts, eqb-true}
 use denote.Enum.Bare.{same_true}
-use Rattle.code_tables.proofs.Exact.{exact_bytes, exact_qname, exact_pos, exact_basic}
-use Rattle.code_tables.specs.contracts.positions.PosPartialEq.TheImpl as pos_eq
+use Rattle.go_values.proofs.Exact.{exact_bytes, exact_qname, exact_pos}
+use Rattle.code_tables.proofs.Exact.{exact_basic}
+use Rattle.go_values.specs.contracts.positions.PosPartialEq.TheImpl as pos_eq
 use Rattle.type_terms.specs.declared.literals.Dir.{Dir}
 use Rattle.type_terms.specs.declared.literals.Origin.{Origin}
 use Rattle.type_terms.specs.declared.literals.ParamNode.{ParamNode}

@@ -8,7 +8,7 @@ use Rattle.std.specs.Cmp.Lexicographic.{pointwise, slice_cmp, texts_ties}
 use Rattle.std.proofs.lemmas.Cmp.{nat_list_cmp_total, tied_itself}
 use Rattle.std.proofs.Math.Nat.{eq-or-lt_of_le}
 use Rattle.std.specs.Map.{lookup}
-use Rattle.code_tables.proofs.Exact.{exact_bytes}
+use Rattle.go_values.proofs.Exact.{exact_bytes}
 use Rattle.type_terms.specs.Trees.{Text}
 use Rattle.type_terms.specs.Packages.{Named, name_of, IsRising, package_decl}
 

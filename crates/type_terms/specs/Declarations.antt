@@ -2,8 +2,8 @@
 -- trees for its types.
 use Rattle.std.specs.Prelude.{ℕ, Bool, List, [], ◌∷◌, ◌++◌, map}
 use Rattle.std.specs.List.{flat_map}
-use Rattle.code_tables.specs.declared.positions.Pos.{Pos}
-use Rattle.code_tables.specs.declared.constants.Const.{Const}
+use Rattle.go_values.specs.declared.positions.Pos.{Pos}
+use Rattle.go_values.specs.declared.constants.Const.{Const}
 use Rattle.type_terms.specs.declared.declarations.Method.{Method}
 use Rattle.type_terms.specs.declared.declarations.DeclNode.{DeclNode}
 use Rattle.type_terms.specs.declared.declarations.DeclNode.TheVariants.{Var, Func, Constant, Defined, Alias, Parameter}

@@ -5,9 +5,9 @@ use Rattle.std.specs.List.{flat_map, AllByRecursion, Contains}
 use Rattle.std.specs.Map.{lookup}
 use Rattle.std.specs.Cmp.Lexicographic.{pointwise}
 use Rattle.std.proofs.lemmas.List.Elements.{Contains-append_left, Contains-append_right, Contains-get_or}
-use Rattle.code_tables.proofs.Exact.{exact_bytes}
-use Rattle.code_tables.specs.declared.qualified.QName.{QName}
-use Rattle.code_tables.specs.declared.positions.Pos.{Pos}
+use Rattle.go_values.proofs.Exact.{exact_bytes}
+use Rattle.go_values.specs.declared.qualified.QName.{QName}
+use Rattle.go_values.specs.declared.positions.Pos.{Pos}
 use Rattle.type_terms.specs.declared.descriptors.Node.{Node}
 use Rattle.type_terms.specs.declared.declarations.DeclNode.{DeclNode}
 use Rattle.type_terms.specs.declared.declarations.Package.{Package}

@@ -1,8 +1,8 @@
 -- What environments give for names, and the rules that the declarations they give keep.
 use Rattle.std.specs.Prelude.{◌≡◌, ℕ, ◌<◌, ◌≤◌, ◌^◌, ◌⊎◌, List, [], Bool, true, IsTrue, Option, Some, None, Result, Ok, Err, length}
 use Rattle.std.specs.List.{All, Contains}
-use Rattle.code_tables.specs.declared.positions.Pos.{Pos}
-use Rattle.code_tables.specs.declared.qualified.QName.{QName}
+use Rattle.go_values.specs.declared.positions.Pos.{Pos}
+use Rattle.go_values.specs.declared.qualified.QName.{QName}
 use Rattle.code_tables.specs.Basic.{basic_code}
 use Rattle.wire_bytes.specs.declared.fault.ByteFault.{ByteFault}
 use Rattle.type_terms.specs.declared.descriptors.Node.{Node}

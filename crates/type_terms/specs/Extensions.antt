@@ -1,7 +1,7 @@
 -- What stays as an arena is extended.
 use Rattle.std.proofs.Common.{◌≡◌, ℕ, ◌<◌, ◌≤◌, List, [], ◌++◌, length, Option, refl, ap, sym, ◌∙◌, subst, arith, length-append, append_assoc}
 use Rattle.std.proofs.lemmas.List.{append-nil}
-use Rattle.code_tables.specs.declared.qualified.QName.{QName}
+use Rattle.go_values.specs.declared.qualified.QName.{QName}
 use Rattle.type_terms.specs.declared.descriptors.Node.{Node}
 use Rattle.type_terms.specs.declared.declarations.DeclNode.{DeclNode}
 use Rattle.type_terms.specs.Denotation.{tree}

@@ -1,6 +1,6 @@
 -- A node of an arena, flat: the types that stand in it are numbers of nodes.
 use Rattle.std.specs.Prelude.{ℕ, List, map}
-use Rattle.code_tables.specs.declared.positions.Pos.{Pos}
+use Rattle.go_values.specs.declared.positions.Pos.{Pos}
 use Rattle.type_terms.specs.declared.literals.Origin.{Origin}
 use Rattle.type_terms.specs.declared.literals.ParamNode.{ParamNode}
 use Rattle.type_terms.specs.declared.literals.Sig.{Sig}

@@ -1,6 +1,6 @@
 -- A node is told by its shape.
 use Rattle.std.proofs.Common.{◌≡◌, ℕ, List, [], ◌∷◌, map, refl, ap, sym, ◌∙◌}
-use Rattle.code_tables.specs.declared.positions.Pos.{Pos}
+use Rattle.go_values.specs.declared.positions.Pos.{Pos}
 use Rattle.type_terms.specs.declared.literals.ParamNode.{ParamNode}
 use Rattle.type_terms.specs.declared.literals.Sig.{Sig}
 use Rattle.type_terms.specs.declared.literals.Field.{Field}

@@ -3,7 +3,7 @@
 use Rattle.std.proofs.Common.{◌≡◌, List, [], ◌∷◌, ◌++◌, length, refl, ap, sym, ◌∙◌, arith}
 use Rattle.std.specs.List.{flat_map, Contains}
 use Rattle.std.proofs.lemmas.Grind.{flat_map-append}
-use Rattle.code_tables.specs.declared.qualified.QName.{QName}
+use Rattle.go_values.specs.declared.qualified.QName.{QName}
 use Rattle.type_terms.specs.Shapes.{param_types, field_types, method_types, term_types}
 use Rattle.type_terms.specs.Trees.{Tree, pointer, slice, array, chan, map_type, func, struct, interface, instance, union, Trees, no_types, types, Params, no_params, params, Fields, no_fields, fields, Methods, no_methods, methods, Terms, no_terms, terms, type_list, param_list, field_list, method_list, term_list, level_of}
 use Rattle.type_terms.specs.References.{argument_count, tree_references, base_references, types_references, params_references, fields_references, methods_references, terms_references, level_references, Reached, started, followed}

@@ -1,7 +1,7 @@
 -- The names that a declaration refers to, and those that can be reached from names.
 use Rattle.std.specs.Prelude.{ℕ, List, [], ◌∷◌, ◌++◌, ◌+◌, map, length}
 use Rattle.std.specs.List.{flat_map, Contains}
-use Rattle.code_tables.specs.declared.qualified.QName.{QName}
+use Rattle.go_values.specs.declared.qualified.QName.{QName}
 use Rattle.type_terms.specs.Trees.{Tree, predeclared, named, parameter, alias, pointer, slice, array, chan, map_type, func, struct, interface, instance, union, Trees, no_types, types, Params, no_params, params, Fields, no_fields, fields, Methods, no_methods, methods, Terms, no_terms, terms, Level}
 use Rattle.type_terms.specs.Shapes.{named_of, parameter_of, alias_of, instance_of, shape_types}
 use Rattle.type_terms.specs.Declarations.{Decl, form_types}

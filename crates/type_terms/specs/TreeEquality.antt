@@ -4,15 +4,16 @@ use Rattle.std.specs.Prelude.{nat_eq}
 use Rattle.std.specs.Cmp.Lexicographic.{pointwise}
 use Rattle.std.proofs.lemmas.Bool.{and_parts, eqb-true}
 use Rattle.std.proofs.lemmas.Cmp.{nat_list_eq_equiv, nat_eq_equiv}
-use Rattle.code_tables.proofs.Exact.{exact_bytes, exact_qname, exact_pos, exact_basic}
-use Rattle.code_tables.specs.declared.qualified.QName.{QName}
-use Rattle.code_tables.specs.declared.positions.Pos.{Pos}
+use Rattle.go_values.proofs.Exact.{exact_bytes, exact_qname, exact_pos}
+use Rattle.code_tables.proofs.Exact.{exact_basic}
+use Rattle.go_values.specs.declared.qualified.QName.{QName}
+use Rattle.go_values.specs.declared.positions.Pos.{Pos}
 use Rattle.code_tables.specs.declared.predeclared.Basic.{Basic}
-use Rattle.code_tables.specs.contracts.qualified.QNamePartialEq.TheImpl as qname_eq
-use Rattle.code_tables.specs.contracts.positions.PosPartialEq.TheImpl as pos_eq
+use Rattle.go_values.specs.contracts.qualified.QNamePartialEq.TheImpl as qname_eq
+use Rattle.go_values.specs.contracts.positions.PosPartialEq.TheImpl as pos_eq
 use Rattle.code_tables.specs.contracts.predeclared.BasicPartialEq.TheImpl as basic_eq
-use Rattle.code_tables.specs.contracts.qualified.QNameEq.TheImpl.Laws as qname_laws
-use Rattle.code_tables.specs.contracts.positions.PosEq.TheImpl.Laws as pos_laws
+use Rattle.go_values.specs.contracts.qualified.QNameEq.TheImpl.Laws as qname_laws
+use Rattle.go_values.specs.contracts.positions.PosEq.TheImpl.Laws as pos_laws
 use Rattle.code_tables.specs.contracts.predeclared.BasicEq.TheImpl.Laws as basic_laws
 use Rattle.type_terms.specs.declared.literals.Dir.{Dir}
 use Rattle.type_terms.specs.declared.literals.Dir.TheVariants.{Receive, Send, Both}

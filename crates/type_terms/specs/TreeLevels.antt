@@ -1,6 +1,6 @@
 -- A tree is its one level, and a level is that of one tree.
 use Rattle.std.proofs.Common.{◌≡◌, List, [], ◌∷◌, refl, ap, sym, ◌∙◌}
-use Rattle.code_tables.specs.declared.positions.Pos.{Pos}
+use Rattle.go_values.specs.declared.positions.Pos.{Pos}
 use Rattle.type_terms.specs.Shapes.{ParamOf, SigOf, FieldOf, MethodOf, TermOf, func_of, struct_of, interface_of, instance_of, union_of}
 use Rattle.type_terms.specs.Trees.{Text, Tree, func, struct, interface, instance, union, Trees, no_types, types, Params, no_params, params, Fields, no_fields, fields, Methods, no_methods, methods, Terms, no_terms, terms, Level, level_of, type_list, param_list, field_list, method_list, term_list, types_of, params_of, fields_of, methods_of, terms_of, tree_of}
 

@@ -1,7 +1,7 @@
 use crate::lists::{MethodList, Nodes};
 use crate::literals::{ParamNode, Sig};
 use crate::node_numbers::NodeId;
-use code_tables::{Bytes, Const, FileInfo, Pos};
+use go_values::{Bytes, Const, FileInfo, Pos};
 
 /// A method of a defined type.
 #[derive(Clone, Debug, Drop, PartialEq, Eq, Hash)]

@@ -1,7 +1,8 @@
 use crate::lists::{Fields, Methods, Nodes, Terms};
 use crate::literals::{Dir, Sig};
 use crate::node_numbers::NodeId;
-use code_tables::{Basic, Bytes, QName};
+use code_tables::Basic;
+use go_values::{Bytes, QName};
 use std::mem::size_of;
 
 // So that a node of a pointer doesn't grow with what structs and signatures hold.

@@ -1,13 +1,13 @@
 ghost use Rattle.std.specs.Prelude.{◌≡◌, ℕ, List, ◌++◌, ◌⊎◌, Bool, Option, None, Some, option_map};
 ghost use Rattle.std.specs.List.{Contains};
-ghost use Rattle.code_tables.specs.declared.qualified.QName.{QName as Name};
+ghost use Rattle.go_values.specs.declared.qualified.QName.{QName as Name};
 ghost use Rattle.type_terms.specs.declared.descriptors.Node.{Node};
 ghost use Rattle.type_terms.specs.Arenas.{Extends};
 ghost use Rattle.type_terms.specs.Environments.{Entry, declared, IsProperDecl, Answers, AddsOnly, AsksOnly, entry_types};
 
 use crate::declarations::DeclNode;
 use crate::shared_nodes::Arena;
-use code_tables::QName;
+use go_values::QName;
 use wire_bytes::ByteFault;
 
 /// Why an environment gives no declaration.

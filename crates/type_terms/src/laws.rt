@@ -2,7 +2,7 @@
 
 ghost use Rattle.std.specs.Prelude.{◌≡◌, ◌<◌, ◌↔◌, ℕ, List, ◌++◌, Bool, true, length};
 ghost use Rattle.std.specs.List.{Contains};
-ghost use Rattle.code_tables.specs.declared.qualified.QName.{QName as Name};
+ghost use Rattle.go_values.specs.declared.qualified.QName.{QName as Name};
 ghost use Rattle.type_terms.specs.declared.descriptors.Node.{Node};
 ghost use Rattle.type_terms.specs.Arenas.{IsArena};
 ghost use Rattle.type_terms.specs.Denotation.{tree};

@@ -28,6 +28,3 @@ pub use literals::{Dir, Field, IMethod, Origin, ParamNode, Sig, Term};
 pub use node_numbers::NodeId;
 pub use overlay::Over;
 pub use shared_nodes::{Arena, ArenaError};
-
-#[cfg(test)]
-mod tests;

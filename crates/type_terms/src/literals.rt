@@ -1,6 +1,6 @@
 use crate::lists::Params;
 use crate::node_numbers::NodeId;
-use code_tables::{Bytes, Pos};
+use go_values::{Bytes, Pos};
 
 /// What a channel may do: receive alone, send alone, or both.
 #[derive(Clone, Copy, Debug, PartialEq, Eq, PartialOrd, Ord, Hash)]

@@ -4,7 +4,7 @@ ghost use Rattle.type_terms.specs.Packages.{IsRising, name_of, package_decl};
 use crate::declarations::{DeclNode, Package};
 use crate::environments::{Env, EnvError, unknown};
 use crate::shared_nodes::Arena;
-use code_tables::QName;
+use go_values::QName;
 
 /// A package over an environment: names of the package's own path are the package's, and all others the
 /// environment's.

@@ -1,5 +1,6 @@
 pub mod Reading
 pub mod Uvarint
+pub mod FaultText
 pub mod Text
 pub mod Begins
 pub mod Varint

@@ -1,5 +1,11 @@
 //! What is wrong with bytes, and where.
 
+ghost use Rattle.std.specs.Prelude.{◌≡◌};
+ghost use Rattle.wire_bytes.specs.declared.fault.ReadFault.TheVariants.{Bytes, OutOfMemory};
+
+use std::alloc::{AllocError, AllocFailed};
+use std::fmt::{self, Display, Formatter, Write};
+
 /// The first thing that is wrong with the bytes of a file. Each `at` counts from the file's first byte.
 #[derive(Clone, Copy, Debug, PartialEq, Eq)]
 pub enum ByteFault {
@@ -23,4 +29,58 @@ pub enum ByteFault {
     NotConst { at: u64 },
     /// The file goes on at `at`, after its last part.
     Trailing { at: u64 },
+}
+
+impl Display for ByteFault {
+    ghost use Rattle.std.specs.Prelude.{Some};
+    ghost use Rattle.wire_bytes.specs.FaultText.{fault_text};
+
+    ghost output = { λ f. Some (fault_text f) };
+
+    fn fmt<W: Write>(&self, f: &mut Formatter<W>) -> fmt::Result {
+        match self {
+            ByteFault::Ended { at } => write!(f, "ended at {at}"),
+            ByteFault::Number { at } => write!(f, "number at {at}"),
+            ByteFault::Range { at, value } => write!(f, "range at {at} value {value}"),
+            ByteFault::Tag { at, value } => write!(f, "tag at {at} value {value}"),
+            ByteFault::Order { at } => write!(f, "order at {at}"),
+            ByteFault::Version { found } => write!(f, "version {found}"),
+            ByteFault::Wide { at } => write!(f, "wide at {at}"),
+            ByteFault::Float { at } => write!(f, "float at {at}"),
+            ByteFault::NotConst { at } => write!(f, "notconst at {at}"),
+            ByteFault::Trailing { at } => write!(f, "trailing at {at}"),
+        }
+    }
+}
+
+/// Why something couldn't be read from bytes by a reader that takes memory.
+#[derive(Clone, Copy, Debug, PartialEq, Eq)]
+pub enum ReadFault {
+    /// The bytes spell none. This is the first thing that is wrong with them.
+    Bytes(ByteFault),
+    OutOfMemory,
+}
+
+impl From<ByteFault> for ReadFault {
+    ghost from_gives = { λ f e. e ≡ Bytes f };
+
+    fn from(fault: ByteFault) -> ReadFault {
+        ReadFault::Bytes(fault)
+    }
+}
+
+impl From<AllocError> for ReadFault {
+    ghost from_gives = { λ _ e. e ≡ OutOfMemory };
+
+    fn from(_error: AllocError) -> ReadFault {
+        ReadFault::OutOfMemory
+    }
+}
+
+impl<T: Drop> From<AllocFailed<T>> for ReadFault {
+    ghost from_gives = { λ _ e. e ≡ OutOfMemory };
+
+    fn from(_error: AllocFailed<T>) -> ReadFault {
+        ReadFault::OutOfMemory
+    }
 }

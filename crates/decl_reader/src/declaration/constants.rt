@@ -1,7 +1,7 @@
 //! The value of a constant, by the predeclared type to which its type comes down.
 
 ghost use Rattle.std.specs.Prelude.{◌≡◌, ℕ, length, Some, IsErrOf};
-ghost use Rattle.position_codec.specs.FileParts.{IsOfFile};
+ghost use Rattle.file_parts.specs.FileParts.{IsOfFile};
 ghost use Rattle.type_terms.specs.Arenas.{AllBelow};
 ghost use Rattle.type_terms.specs.Denotation.{tree};
 ghost use Rattle.type_terms.specs.NodeShapes.{node_shape, children};
@@ -9,18 +9,19 @@ ghost use Rattle.type_terms.specs.Shapes.{retype};
 ghost use Rattle.type_terms.specs.Trees.{Tree, tree_of};
 ghost use Rattle.decl_spelling.specs.Tables.{type_named};
 ghost use Rattle.decl_spelling.specs.Constants.{generic_basic, basic_type};
-ghost use Rattle.decl_reader.specs.Calls.{source_of, ahead_of};
+ghost use Rattle.decl_reader.specs.Calls.{sections_of, ahead_of};
 ghost use Rattle.decl_reader.specs.Blocks.{AllInside, table_of};
 ghost use Rattle.decl_reader.specs.Wholes.{IsValue, value_by};
 
 use crate::basics::Basics;
 use crate::block::Block;
 use crate::codes::basic_named;
-use crate::fault::ReadFault;
+use crate::fault::DeclFault;
 use crate::flat::{Kind, kind_of, read_value};
 use crate::table::Table;
-use code_tables::{Basic, Const, QName};
-use position_codec::Parts;
+use code_tables::Basic;
+use file_parts::Parts;
+use go_values::{Const, QName};
 use std::alloc::Global;
 use type_terms::{Arena, Node};
 use wire_bytes::ByteFault;
@@ -35,15 +36,15 @@ pub(crate) fn read_constant<B: Basics>(
     block: &mut Block<'_>,
     table: &Table,
     arena: &Arena,
-) -> Result<Const, ReadFault>
+) -> Result<Const, DeclFault>
     requires of_file { IsOfFile parts.now }
     requires inside { AllInside (length arena.now.nodes) table.now.blocks.entries }
-    ensures no_nodes { IsErrOf result ReadFault.Nodes → ⊥ }
-    ensures exact { IsValue result (ahead_of block.new) (value_by (source_of parts.now) at (basic_type (B.meaning basics.now) (type_named parts.now.version (table_of arena.now.nodes table.now.blocks.entries) ty)) (ahead_of block.old)) }
+    ensures no_nodes { IsErrOf result DeclFault.Nodes → ⊥ }
+    ensures exact { IsValue result (ahead_of block.new) (value_by (sections_of parts.now) at (basic_type (B.meaning basics.now) (type_named parts.now.version (table_of arena.now.nodes table.now.blocks.entries) ty)) (ahead_of block.old)) }
 {
     match basic_type(parts.version, ty, basics, table, arena) {
         Some(basic) => read_value_of(alloc, parts, basic, at, block),
-        None => Err(ReadFault::Bytes(ByteFault::NotConst { at })),
+        None => Err(DeclFault::Bytes(ByteFault::NotConst { at })),
     }
 }
 
@@ -54,19 +55,19 @@ fn read_value_of(
     basic: Basic,
     at: u64,
     block: &mut Block<'_>,
-) -> Result<Const, ReadFault>
+) -> Result<Const, DeclFault>
     requires of_file { IsOfFile parts.now }
-    ensures no_nodes { IsErrOf result ReadFault.Nodes → ⊥ }
-    ensures exact { IsValue result (ahead_of block.new) (value_by (source_of parts.now) at (Some basic) (ahead_of block.old)) }
+    ensures no_nodes { IsErrOf result DeclFault.Nodes → ⊥ }
+    ensures exact { IsValue result (ahead_of block.new) (value_by (sections_of parts.now) at (Some basic) (ahead_of block.old)) }
 {
     match kind_of(basic) {
         Kind::Spelled(spelling) => match read_value(alloc, parts, spelling, block) {
             // Reading bytes adds no node.
-            Err(ReadFault::Nodes) => Err(ReadFault::OutOfMemory),
+            Err(DeclFault::Nodes) => Err(DeclFault::OutOfMemory),
             read => read,
         },
-        Kind::Floating => Err(ReadFault::Bytes(ByteFault::Float { at })),
-        Kind::NoConstant => Err(ReadFault::Bytes(ByteFault::NotConst { at })),
+        Kind::Floating => Err(DeclFault::Bytes(ByteFault::Float { at })),
+        Kind::NoConstant => Err(DeclFault::Bytes(ByteFault::NotConst { at })),
     }
 }
 

@@ -1,16 +1,16 @@
 //! The methods of a defined type.
 
 ghost use Rattle.std.specs.Prelude.{◌≡◌, ◌≤◌, ℕ, length, map, OnOk, IsErrOf};
-ghost use Rattle.position_codec.specs.FileParts.{IsOfFile, body_of};
+ghost use Rattle.file_parts.specs.FileParts.{IsOfFile, body_of};
 ghost use Rattle.type_terms.specs.Arenas.{Extends};
 ghost use Rattle.type_terms.specs.NodeShapes.{node_shape};
 ghost use Rattle.type_terms.specs.Shapes.{retype};
 ghost use Rattle.type_terms.specs.Trees.{Tree, tree_of};
-ghost use Rattle.decl_spelling.specs.Source.{HoldsBytes};
+ghost use Rattle.decl_spelling.specs.Sections.{HoldsBytes};
 ghost use Rattle.decl_spelling.specs.Reading.{list_at};
 ghost use Rattle.decl_spelling.specs.Tables.{type_named};
 ghost use Rattle.decl_spelling.specs.Declarations.{has_methods, receiver_at, resolved};
-ghost use Rattle.decl_reader.specs.Calls.{source_of, ahead_of};
+ghost use Rattle.decl_reader.specs.Calls.{sections_of, ahead_of};
 ghost use Rattle.decl_reader.specs.Blocks.{AllInside, table_of};
 ghost use Rattle.decl_reader.specs.Forms.{receiver_shape};
 ghost use Rattle.decl_reader.specs.Opens.{IsReady, Counts};
@@ -19,11 +19,11 @@ ghost use Rattle.decl_reader.specs.Wholes.{IsPart, methods_by};
 use crate::block::Block;
 use crate::codes::basic_named;
 use crate::declaration::parts::know_types;
-use crate::fault::ReadFault;
+use crate::fault::DeclFault;
 use crate::flat::{ReceiverParts, read_receivers};
 use crate::table::Table;
 use code_tables::Basic;
-use position_codec::Parts;
+use file_parts::Parts;
 use std::alloc::Global;
 use std::sync::ledger::Ledger;
 use steps::Steps;
@@ -39,16 +39,16 @@ pub(crate) fn read_methods<L: Ledger>(
     table: &mut Table,
     arena: &mut Arena,
     steps: &mut Steps<L>,
-) -> Result<Vec<ReceiverParts>, ReadFault>
+) -> Result<Vec<ReceiverParts>, DeclFault>
     requires of_file { IsOfFile parts.now }
-    requires bytes { HoldsBytes (source_of parts.now) }
+    requires bytes { HoldsBytes (sections_of parts.now) }
     requires ready { IsReady (length (body_of parts.now)) (length arena.old.nodes) table.old.blocks.entries }
     requires within { offset ≤ parts.now.body_len }
-    ensures exact { IsPart (λ v. map receiver_shape v.items) result (ahead_of block.new) (table_of arena.new.nodes table.new.blocks.entries) (methods_by (source_of parts.now) offset (ahead_of block.old) (table_of arena.old.nodes table.old.blocks.entries) (has_methods (type_named parts.now.version (table_of arena.old.nodes table.old.blocks.entries) underlying))) }
+    ensures exact { IsPart (λ v. map receiver_shape v.items) result (ahead_of block.new) (table_of arena.new.nodes table.new.blocks.entries) (methods_by (sections_of parts.now) offset (ahead_of block.old) (table_of arena.old.nodes table.old.blocks.entries) (has_methods (type_named parts.now.version (table_of arena.old.nodes table.old.blocks.entries) underlying))) }
     ensures extends { Extends arena.old arena.new }
     ensures ready { IsReady (length (body_of parts.now)) (length arena.new.nodes) table.new.blocks.entries }
     ensures counted { Counts steps.old table.old.blocks.entries steps.new table.new.blocks.entries }
-    ensures full { IsErrOf result ReadFault.Nodes → length arena.new.nodes ≡ arena.new.limit }
+    ensures full { IsErrOf result DeclFault.Nodes → length arena.new.nodes ≡ arena.new.limit }
 {
     if has_methods(parts.version, underlying, table, arena) {
         read_receiver_types(alloc, parts, offset, block, table, arena, steps)
@@ -66,29 +66,29 @@ fn read_receiver_types<L: Ledger>(
     table: &mut Table,
     arena: &mut Arena,
     steps: &mut Steps<L>,
-) -> Result<Vec<ReceiverParts>, ReadFault>
+) -> Result<Vec<ReceiverParts>, DeclFault>
     requires of_file { IsOfFile parts.now }
-    requires bytes { HoldsBytes (source_of parts.now) }
+    requires bytes { HoldsBytes (sections_of parts.now) }
     requires ready { IsReady (length (body_of parts.now)) (length arena.old.nodes) table.old.blocks.entries }
     requires within { offset ≤ parts.now.body_len }
-    ensures exact { IsPart (λ v. map receiver_shape v.items) result (ahead_of block.new) (table_of arena.new.nodes table.new.blocks.entries) (resolved (source_of parts.now) offset (list_at (receiver_at (source_of parts.now)) (ahead_of block.old)) (table_of arena.old.nodes table.old.blocks.entries)) }
+    ensures exact { IsPart (λ v. map receiver_shape v.items) result (ahead_of block.new) (table_of arena.new.nodes table.new.blocks.entries) (resolved (sections_of parts.now) offset (list_at (receiver_at (sections_of parts.now)) (ahead_of block.old)) (table_of arena.old.nodes table.old.blocks.entries)) }
     ensures extends { Extends arena.old arena.new }
     ensures ready { IsReady (length (body_of parts.now)) (length arena.new.nodes) table.new.blocks.entries }
     ensures counted { Counts steps.old table.old.blocks.entries steps.new table.new.blocks.entries }
-    ensures full { IsErrOf result ReadFault.Nodes → length arena.new.nodes ≡ arena.new.limit }
+    ensures full { IsErrOf result DeclFault.Nodes → length arena.new.nodes ≡ arena.new.limit }
 {
     match read_receivers(alloc, parts, block) {
         Ok(receivers) => {
             know_types(alloc, parts, offset, block, table, arena, steps)?;
             Ok(receivers)
         }
-        Err(ReadFault::Bytes(fault)) => {
+        Err(DeclFault::Bytes(fault)) => {
             // A fault of the types that stand before it comes first.
             know_types(alloc, parts, offset, block, table, arena, steps)?;
-            Err(ReadFault::Bytes(fault))
+            Err(DeclFault::Bytes(fault))
         }
         // Reading bytes adds no node.
-        Err(ReadFault::Nodes | ReadFault::OutOfMemory) => Err(ReadFault::OutOfMemory),
+        Err(DeclFault::Nodes | DeclFault::OutOfMemory) => Err(DeclFault::OutOfMemory),
     }
 }
 

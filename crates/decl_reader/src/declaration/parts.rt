@@ -1,20 +1,20 @@
 //! A part of a declaration's own bytes, and then the types that it names.
 
 ghost use Rattle.std.specs.Prelude.{◌≡◌, ◌≤◌, length, OnOk, IsErrOf};
-ghost use Rattle.position_codec.specs.FileParts.{IsOfFile, body_of};
+ghost use Rattle.file_parts.specs.FileParts.{IsOfFile, body_of};
 ghost use Rattle.type_terms.specs.Arenas.{Extends};
-ghost use Rattle.decl_spelling.specs.Source.{HoldsBytes};
+ghost use Rattle.decl_spelling.specs.Sections.{HoldsBytes};
 ghost use Rattle.decl_spelling.specs.Descent.{block_at, resolve_all};
-ghost use Rattle.decl_reader.specs.Calls.{source_of, ahead_of};
+ghost use Rattle.decl_reader.specs.Calls.{sections_of, ahead_of};
 ghost use Rattle.decl_reader.specs.Blocks.{table_of};
 ghost use Rattle.decl_reader.specs.Opens.{IsReady, Counts, Resolves};
 ghost use Rattle.decl_reader.specs.Wholes.{all_known};
 
 use crate::block::Block;
 use crate::descent::read_types;
-use crate::fault::ReadFault;
+use crate::fault::DeclFault;
 use crate::table::Table;
-use position_codec::Parts;
+use file_parts::Parts;
 use std::alloc::Global;
 use std::sync::ledger::Ledger;
 use steps::Steps;
@@ -29,17 +29,17 @@ pub(crate) fn know_types<L: Ledger>(
     table: &mut Table,
     arena: &mut Arena,
     steps: &mut Steps<L>,
-) -> Result<(), ReadFault>
+) -> Result<(), DeclFault>
     requires of_file { IsOfFile parts.now }
-    requires bytes { HoldsBytes (source_of parts.now) }
+    requires bytes { HoldsBytes (sections_of parts.now) }
     requires ready { IsReady (length (body_of parts.now)) (length arena.old.nodes) table.old.blocks.entries }
     requires within { offset ≤ parts.now.body_len }
-    ensures exact { Resolves result (table_of arena.new.nodes table.new.blocks.entries) (resolve_all (source_of parts.now) (block_at (source_of parts.now) offset) offset block.old.mentions.items (table_of arena.old.nodes table.old.blocks.entries)) }
+    ensures exact { Resolves result (table_of arena.new.nodes table.new.blocks.entries) (resolve_all (sections_of parts.now) (block_at (sections_of parts.now) offset) offset block.old.mentions.items (table_of arena.old.nodes table.old.blocks.entries)) }
     ensures known { OnOk result (ahead_of block.new ≡ all_known (ahead_of block.old)) }
     ensures extends { Extends arena.old arena.new }
     ensures ready { IsReady (length (body_of parts.now)) (length arena.new.nodes) table.new.blocks.entries }
     ensures counted { Counts steps.old table.old.blocks.entries steps.new table.new.blocks.entries }
-    ensures full { IsErrOf result ReadFault.Nodes → length arena.new.nodes ≡ arena.new.limit }
+    ensures full { IsErrOf result DeclFault.Nodes → length arena.new.nodes ≡ arena.new.limit }
 {
     read_types(
         alloc,

@@ -1,21 +1,22 @@
 //! Declarations up to where their types decide what follows, with types as numbers.
 
 ghost use Rattle.std.specs.Prelude.{◌≡◌, map};
-ghost use Rattle.position_codec.specs.FileParts.{IsOfFile};
+ghost use Rattle.file_parts.specs.FileParts.{IsOfFile};
 ghost use Rattle.decl_spelling.specs.Reading.{list_at};
 ghost use Rattle.decl_spelling.specs.Declarations.{var_at, func_decl_at, generic_func_at, constant_at, defined_at, generic_defined_at, alias_at, generic_alias_at, parameter_at, constraint_demand, head_by, head_at, receiver_at};
-ghost use Rattle.decl_reader.specs.Calls.{Gives, ahead_of, source_of};
+ghost use Rattle.decl_reader.specs.Calls.{ReadsBlock, ahead_of, sections_of};
 ghost use Rattle.decl_reader.specs.Forms.{head_shape, receiver_shape};
 
 use crate::block::{Block, read_pos, read_text, read_truth, read_type};
 use crate::codes::decl_tag_of;
-use crate::fault::ReadFault;
+use crate::fault::DeclFault;
 use crate::flat::lists::{Listed, read_list};
 use crate::flat::params::{Param, Signature, read_signature};
 use crate::flat::types::read_types;
-use code_tables::{Bytes, Const, DeclTag, Pos};
+use code_tables::DeclTag;
 use decl_spelling::Demand;
-use position_codec::Parts;
+use file_parts::Parts;
+use go_values::{Bytes, Const, Pos};
 use std::alloc::Global;
 use wire_bytes::ByteFault;
 
@@ -88,15 +89,15 @@ pub(crate) fn read_declaration_head(
     alloc: Global,
     parts: &Parts<'_>,
     block: &mut Block<'_>,
-) -> Result<DeclHead, ReadFault>
+) -> Result<DeclHead, DeclFault>
     requires { IsOfFile parts.now }
-    ensures { Gives head_shape result (ahead_of block.new) (head_at (source_of parts.now) (ahead_of block.old)) }
+    ensures { ReadsBlock head_shape result (ahead_of block.new) (head_at (sections_of parts.now) (ahead_of block.old)) }
 {
     let at = block.cursor.place() as u64;
     let letter = block.cursor.byte()?;
     match decl_tag_of(parts.version, letter) {
         Some(tag) => read_parts(alloc, parts, tag, block),
-        None => Err(ReadFault::Bytes(ByteFault::Tag {
+        None => Err(DeclFault::Bytes(ByteFault::Tag {
             at,
             value: u64::from(letter),
         })),
@@ -109,9 +110,9 @@ fn read_parts(
     parts: &Parts<'_>,
     tag: DeclTag,
     block: &mut Block<'_>,
-) -> Result<DeclHead, ReadFault>
+) -> Result<DeclHead, DeclFault>
     requires { IsOfFile parts.now }
-    ensures { Gives head_shape result (ahead_of block.new) (head_by (source_of parts.now) tag (ahead_of block.old)) }
+    ensures { ReadsBlock head_shape result (ahead_of block.new) (head_by (sections_of parts.now) tag (ahead_of block.old)) }
 {
     match tag {
         DeclTag::Var => read_var(alloc, parts, block),
@@ -127,9 +128,9 @@ fn read_parts(
 }
 
 #[tactic(auto, unfolding(decl_spelling::specs::Declarations::var_at))]
-fn read_var(alloc: Global, parts: &Parts<'_>, block: &mut Block<'_>) -> Result<DeclHead, ReadFault>
+fn read_var(alloc: Global, parts: &Parts<'_>, block: &mut Block<'_>) -> Result<DeclHead, DeclFault>
     requires { IsOfFile parts.now }
-    ensures { Gives head_shape result (ahead_of block.new) (var_at (source_of parts.now) (ahead_of block.old)) }
+    ensures { ReadsBlock head_shape result (ahead_of block.new) (var_at (sections_of parts.now) (ahead_of block.old)) }
 {
     let pos = read_pos(alloc, parts, block)?;
     let ty = read_type(block, Demand::Any)?;
@@ -137,9 +138,9 @@ fn read_var(alloc: Global, parts: &Parts<'_>, block: &mut Block<'_>) -> Result<D
 }
 
 #[tactic(auto, unfolding(decl_spelling::specs::Declarations::func_decl_at))]
-fn read_func(alloc: Global, parts: &Parts<'_>, block: &mut Block<'_>) -> Result<DeclHead, ReadFault>
+fn read_func(alloc: Global, parts: &Parts<'_>, block: &mut Block<'_>) -> Result<DeclHead, DeclFault>
     requires { IsOfFile parts.now }
-    ensures { Gives head_shape result (ahead_of block.new) (func_decl_at (source_of parts.now) (ahead_of block.old)) }
+    ensures { ReadsBlock head_shape result (ahead_of block.new) (func_decl_at (sections_of parts.now) (ahead_of block.old)) }
 {
     let pos = read_pos(alloc, parts, block)?;
     let signature = read_signature(alloc, parts, block)?;
@@ -155,9 +156,9 @@ fn read_generic_func(
     alloc: Global,
     parts: &Parts<'_>,
     block: &mut Block<'_>,
-) -> Result<DeclHead, ReadFault>
+) -> Result<DeclHead, DeclFault>
     requires { IsOfFile parts.now }
-    ensures { Gives head_shape result (ahead_of block.new) (generic_func_at (source_of parts.now) (ahead_of block.old)) }
+    ensures { ReadsBlock head_shape result (ahead_of block.new) (generic_func_at (sections_of parts.now) (ahead_of block.old)) }
 {
     let pos = read_pos(alloc, parts, block)?;
     let tparams = read_types(alloc, Demand::Parameter, block)?;
@@ -174,9 +175,9 @@ fn read_constant(
     alloc: Global,
     parts: &Parts<'_>,
     block: &mut Block<'_>,
-) -> Result<DeclHead, ReadFault>
+) -> Result<DeclHead, DeclFault>
     requires { IsOfFile parts.now }
-    ensures { Gives head_shape result (ahead_of block.new) (constant_at (source_of parts.now) (ahead_of block.old)) }
+    ensures { ReadsBlock head_shape result (ahead_of block.new) (constant_at (sections_of parts.now) (ahead_of block.old)) }
 {
     let pos = read_pos(alloc, parts, block)?;
     let at = block.cursor.place() as u64;
@@ -189,9 +190,9 @@ fn read_defined(
     alloc: Global,
     parts: &Parts<'_>,
     block: &mut Block<'_>,
-) -> Result<DeclHead, ReadFault>
+) -> Result<DeclHead, DeclFault>
     requires { IsOfFile parts.now }
-    ensures { Gives head_shape result (ahead_of block.new) (defined_at (source_of parts.now) (ahead_of block.old)) }
+    ensures { ReadsBlock head_shape result (ahead_of block.new) (defined_at (sections_of parts.now) (ahead_of block.old)) }
 {
     let pos = read_pos(alloc, parts, block)?;
     let underlying = read_type(block, Demand::Underlying)?;
@@ -207,9 +208,9 @@ fn read_generic_defined(
     alloc: Global,
     parts: &Parts<'_>,
     block: &mut Block<'_>,
-) -> Result<DeclHead, ReadFault>
+) -> Result<DeclHead, DeclFault>
     requires { IsOfFile parts.now }
-    ensures { Gives head_shape result (ahead_of block.new) (generic_defined_at (source_of parts.now) (ahead_of block.old)) }
+    ensures { ReadsBlock head_shape result (ahead_of block.new) (generic_defined_at (sections_of parts.now) (ahead_of block.old)) }
 {
     let pos = read_pos(alloc, parts, block)?;
     let tparams = read_types(alloc, Demand::Parameter, block)?;
@@ -226,9 +227,9 @@ fn read_alias(
     alloc: Global,
     parts: &Parts<'_>,
     block: &mut Block<'_>,
-) -> Result<DeclHead, ReadFault>
+) -> Result<DeclHead, DeclFault>
     requires { IsOfFile parts.now }
-    ensures { Gives head_shape result (ahead_of block.new) (alias_at (source_of parts.now) (ahead_of block.old)) }
+    ensures { ReadsBlock head_shape result (ahead_of block.new) (alias_at (sections_of parts.now) (ahead_of block.old)) }
 {
     let pos = read_pos(alloc, parts, block)?;
     let ty = read_type(block, Demand::Any)?;
@@ -244,9 +245,9 @@ fn read_generic_alias(
     alloc: Global,
     parts: &Parts<'_>,
     block: &mut Block<'_>,
-) -> Result<DeclHead, ReadFault>
+) -> Result<DeclHead, DeclFault>
     requires { IsOfFile parts.now }
-    ensures { Gives head_shape result (ahead_of block.new) (generic_alias_at (source_of parts.now) (ahead_of block.old)) }
+    ensures { ReadsBlock head_shape result (ahead_of block.new) (generic_alias_at (sections_of parts.now) (ahead_of block.old)) }
 {
     let pos = read_pos(alloc, parts, block)?;
     let tparams = read_types(alloc, Demand::Parameter, block)?;
@@ -260,9 +261,9 @@ fn read_type_parameter(
     alloc: Global,
     parts: &Parts<'_>,
     block: &mut Block<'_>,
-) -> Result<DeclHead, ReadFault>
+) -> Result<DeclHead, DeclFault>
     requires { IsOfFile parts.now }
-    ensures { Gives head_shape result (ahead_of block.new) (parameter_at (source_of parts.now) (ahead_of block.old)) }
+    ensures { ReadsBlock head_shape result (ahead_of block.new) (parameter_at (sections_of parts.now) (ahead_of block.old)) }
 {
     let pos = read_pos(alloc, parts, block)?;
     let flag = block.cursor.place() as u64;
@@ -300,7 +301,7 @@ impl Listed for ReceiverParts {
         alloc: Global,
         parts: &Parts<'_>,
         block: &mut Block<'_>,
-    ) -> Result<ReceiverParts, ReadFault> {
+    ) -> Result<ReceiverParts, DeclFault> {
         let pos = read_pos(alloc, parts, block)?;
         let name = read_text(alloc, parts, block)?;
         let recv = Param::read(alloc, parts, block)?;
@@ -319,9 +320,9 @@ pub(crate) fn read_receivers(
     alloc: Global,
     parts: &Parts<'_>,
     block: &mut Block<'_>,
-) -> Result<Vec<ReceiverParts>, ReadFault>
+) -> Result<Vec<ReceiverParts>, DeclFault>
     requires { IsOfFile parts.now }
-    ensures { Gives (λ v. map receiver_shape v.items) result (ahead_of block.new) (list_at (receiver_at (source_of parts.now)) (ahead_of block.old)) }
+    ensures { ReadsBlock (λ v. map receiver_shape v.items) result (ahead_of block.new) (list_at (receiver_at (sections_of parts.now)) (ahead_of block.old)) }
 {
     read_list(alloc, parts, block)
 }

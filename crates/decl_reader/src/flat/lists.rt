@@ -1,33 +1,33 @@
 //! Counted lists of a block. A count may be any number, so no memory is taken by it: each item takes at least a byte.
 
 ghost use Rattle.std.specs.Prelude.{◌≡◌, ◌<◌, map};
-ghost use Rattle.position_codec.specs.FileParts.{IsOfFile};
+ghost use Rattle.file_parts.specs.FileParts.{IsOfFile};
 ghost use Rattle.decl_spelling.specs.Reading.{times, list_at, some_at};
-ghost use Rattle.decl_reader.specs.Calls.{Gives, ahead_of, source_of};
+ghost use Rattle.decl_reader.specs.Calls.{ReadsBlock, ahead_of, sections_of};
 
 use crate::block::{Block, read_number};
-use crate::fault::ReadFault;
-use position_codec::Parts;
+use crate::fault::DeclFault;
+use file_parts::Parts;
 use std::alloc::Global;
 use wire_bytes::ByteFault;
 
 /// What stands in a counted list of a block.
 pub(crate) trait Listed: Drop {
-    ghost use Rattle.position_codec.specs.FileParts.{IsOfFile};
-    ghost use Rattle.decl_spelling.specs.Source.{Source};
+    ghost use Rattle.file_parts.specs.FileParts.{IsOfFile};
+    ghost use Rattle.decl_spelling.specs.Sections.{Sections};
     ghost use Rattle.decl_spelling.specs.Reading.{Reader};
-    ghost use Rattle.decl_reader.specs.Calls.{Gives, ahead_of, source_of};
+    ghost use Rattle.decl_reader.specs.Calls.{ReadsBlock, ahead_of, sections_of};
 
     ghost Shape: { Type 0 };
 
     ghost shape: { Self → Shape };
 
-    ghost reading: { Source → Reader Shape };
+    ghost reading: { Sections → Reader Shape };
 
     /// Reads the next one.
-    fn read(alloc: Global, parts: &Parts<'_>, block: &mut Block<'_>) -> Result<Self, ReadFault>
+    fn read(alloc: Global, parts: &Parts<'_>, block: &mut Block<'_>) -> Result<Self, DeclFault>
         requires { IsOfFile parts.now }
-        ensures { Gives shape result (ahead_of block.new) (reading (source_of parts.now) (ahead_of block.old)) };
+        ensures { ReadsBlock shape result (ahead_of block.new) (reading (sections_of parts.now) (ahead_of block.old)) };
 }
 
 /// That many items.
@@ -36,9 +36,9 @@ pub(crate) fn read_times<T: Listed>(
     parts: &Parts<'_>,
     count: u64,
     block: &mut Block<'_>,
-) -> Result<Vec<T>, ReadFault>
+) -> Result<Vec<T>, DeclFault>
     requires { IsOfFile parts.now }
-    ensures { Gives (λ v. map T.shape v.items) result (ahead_of block.new) (times (T.reading (source_of parts.now)) count (ahead_of block.old)) }
+    ensures { ReadsBlock (λ v. map T.shape v.items) result (ahead_of block.new) (times (T.reading (sections_of parts.now)) count (ahead_of block.old)) }
 {
     let mut items = Vec::new(alloc);
     for _ in 0..count {
@@ -54,9 +54,9 @@ pub(crate) fn read_list<T: Listed>(
     alloc: Global,
     parts: &Parts<'_>,
     block: &mut Block<'_>,
-) -> Result<Vec<T>, ReadFault>
+) -> Result<Vec<T>, DeclFault>
     requires { IsOfFile parts.now }
-    ensures { Gives (λ v. map T.shape v.items) result (ahead_of block.new) (list_at (T.reading (source_of parts.now)) (ahead_of block.old)) }
+    ensures { ReadsBlock (λ v. map T.shape v.items) result (ahead_of block.new) (list_at (T.reading (sections_of parts.now)) (ahead_of block.old)) }
 {
     let count = read_number(block)?;
     read_times(alloc, parts, count, block)
@@ -68,14 +68,14 @@ pub(crate) fn read_some<T: Listed>(
     alloc: Global,
     parts: &Parts<'_>,
     block: &mut Block<'_>,
-) -> Result<Vec<T>, ReadFault>
+) -> Result<Vec<T>, DeclFault>
     requires { IsOfFile parts.now }
-    ensures { Gives (λ v. map T.shape v.items) result (ahead_of block.new) (some_at (T.reading (source_of parts.now)) (ahead_of block.old)) }
+    ensures { ReadsBlock (λ v. map T.shape v.items) result (ahead_of block.new) (some_at (T.reading (sections_of parts.now)) (ahead_of block.old)) }
 {
     let at = block.cursor.place() as u64;
     let count = read_number(block)?;
     if count == 0 {
-        return Err(ReadFault::Bytes(ByteFault::Range { at, value: count }));
+        return Err(DeclFault::Bytes(ByteFault::Range { at, value: count }));
     }
     read_times(alloc, parts, count, block)
 }

@@ -1,12 +1,12 @@
 //! Fields, methods and terms, with types as numbers.
 
 use crate::block::{Block, read_pos, read_text, read_truth, read_type};
-use crate::fault::ReadFault;
+use crate::fault::DeclFault;
 use crate::flat::lists::Listed;
 use crate::flat::params::{Signature, read_signature};
-use code_tables::{Bytes, Pos};
 use decl_spelling::Demand;
-use position_codec::Parts;
+use file_parts::Parts;
+use go_values::{Bytes, Pos};
 use std::alloc::Global;
 
 /// A field of a struct.
@@ -49,7 +49,7 @@ impl Listed for FieldParts {
         alloc: Global,
         parts: &Parts<'_>,
         block: &mut Block<'_>,
-    ) -> Result<FieldParts, ReadFault> {
+    ) -> Result<FieldParts, DeclFault> {
         let pos = read_pos(alloc, parts, block)?;
         let name = read_text(alloc, parts, block)?;
         let ty = read_type(block, Demand::Any)?;
@@ -80,7 +80,7 @@ impl Listed for MethodParts {
         alloc: Global,
         parts: &Parts<'_>,
         block: &mut Block<'_>,
-    ) -> Result<MethodParts, ReadFault> {
+    ) -> Result<MethodParts, DeclFault> {
         let pos = read_pos(alloc, parts, block)?;
         let name = read_text(alloc, parts, block)?;
         let signature = read_signature(alloc, parts, block)?;
@@ -107,7 +107,7 @@ impl Listed for TermParts {
         _alloc: Global,
         _parts: &Parts<'_>,
         block: &mut Block<'_>,
-    ) -> Result<TermParts, ReadFault> {
+    ) -> Result<TermParts, DeclFault> {
         let tilde = read_truth(block)?;
         let ty = read_type(block, Demand::Any)?;
         Ok(TermParts { tilde, ty })

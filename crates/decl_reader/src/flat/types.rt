@@ -1,15 +1,15 @@
 //! Lists of types, as numbers.
 
 ghost use Rattle.std.specs.Prelude.{◌≡◌, ◌<◌};
-ghost use Rattle.position_codec.specs.FileParts.{IsOfFile};
+ghost use Rattle.file_parts.specs.FileParts.{IsOfFile};
 ghost use Rattle.decl_spelling.specs.Reading.{times, list_at, some_at, type_at};
 ghost use Rattle.decl_spelling.specs.Descriptors.{embedded_at};
-ghost use Rattle.decl_reader.specs.Calls.{Gives, ahead_of, source_of};
+ghost use Rattle.decl_reader.specs.Calls.{ReadsBlock, ahead_of, sections_of};
 
 use crate::block::{Block, read_number, read_pos, read_type};
-use crate::fault::ReadFault;
+use crate::fault::DeclFault;
 use decl_spelling::Demand;
-use position_codec::Parts;
+use file_parts::Parts;
 use std::alloc::Global;
 use wire_bytes::ByteFault;
 
@@ -19,13 +19,13 @@ pub(crate) fn read_types(
     alloc: Global,
     asked: Demand,
     block: &mut Block<'_>,
-) -> Result<Vec<u64>, ReadFault>
-    ensures { Gives (λ v. v.items) result (ahead_of block.new) (some_at (type_at asked) (ahead_of block.old)) }
+) -> Result<Vec<u64>, DeclFault>
+    ensures { ReadsBlock (λ v. v.items) result (ahead_of block.new) (some_at (type_at asked) (ahead_of block.old)) }
 {
     let at = block.cursor.place() as u64;
     let count = read_number(block)?;
     if count == 0 {
-        return Err(ReadFault::Bytes(ByteFault::Range { at, value: count }));
+        return Err(DeclFault::Bytes(ByteFault::Range { at, value: count }));
     }
     read_type_times(alloc, asked, count, block)
 }
@@ -35,8 +35,8 @@ fn read_type_times(
     asked: Demand,
     count: u64,
     block: &mut Block<'_>,
-) -> Result<Vec<u64>, ReadFault>
-    ensures { Gives (λ v. v.items) result (ahead_of block.new) (times (type_at asked) count (ahead_of block.old)) }
+) -> Result<Vec<u64>, DeclFault>
+    ensures { ReadsBlock (λ v. v.items) result (ahead_of block.new) (times (type_at asked) count (ahead_of block.old)) }
 {
     let mut types = Vec::new(alloc);
     for _ in 0..count {
@@ -52,9 +52,9 @@ pub(crate) fn read_embedded(
     alloc: Global,
     parts: &Parts<'_>,
     block: &mut Block<'_>,
-) -> Result<Vec<u64>, ReadFault>
+) -> Result<Vec<u64>, DeclFault>
     requires { IsOfFile parts.now }
-    ensures { Gives (λ v. v.items) result (ahead_of block.new) (list_at (embedded_at (source_of parts.now)) (ahead_of block.old)) }
+    ensures { ReadsBlock (λ v. v.items) result (ahead_of block.new) (list_at (embedded_at (sections_of parts.now)) (ahead_of block.old)) }
 {
     let count = read_number(block)?;
     read_embedded_times(alloc, parts, count, block)
@@ -65,9 +65,9 @@ fn read_embedded_times(
     parts: &Parts<'_>,
     count: u64,
     block: &mut Block<'_>,
-) -> Result<Vec<u64>, ReadFault>
+) -> Result<Vec<u64>, DeclFault>
     requires { IsOfFile parts.now }
-    ensures { Gives (λ v. v.items) result (ahead_of block.new) (times (embedded_at (source_of parts.now)) count (ahead_of block.old)) }
+    ensures { ReadsBlock (λ v. v.items) result (ahead_of block.new) (times (embedded_at (sections_of parts.now)) count (ahead_of block.old)) }
 {
     let mut types = Vec::new(alloc);
     for _ in 0..count {
@@ -82,9 +82,9 @@ fn read_embedded_type(
     alloc: Global,
     parts: &Parts<'_>,
     block: &mut Block<'_>,
-) -> Result<u64, ReadFault>
+) -> Result<u64, DeclFault>
     requires { IsOfFile parts.now }
-    ensures { Gives (λ n. n) result (ahead_of block.new) (embedded_at (source_of parts.now) (ahead_of block.old)) }
+    ensures { ReadsBlock (λ n. n) result (ahead_of block.new) (embedded_at (sections_of parts.now) (ahead_of block.old)) }
 {
     let _pos = read_pos(alloc, parts, block)?;
     read_type(block, Demand::Any)

@@ -1,15 +1,16 @@
 //! The values of constants.
 
 ghost use Rattle.std.specs.Prelude.{◌≡◌, ◌*◌};
-ghost use Rattle.position_codec.specs.FileParts.{IsOfFile};
+ghost use Rattle.file_parts.specs.FileParts.{IsOfFile};
 ghost use Rattle.decl_spelling.specs.Constants.{kind_of, kind_number, kind_given_at, kind_at, spelled_at, value_at};
-ghost use Rattle.decl_reader.specs.Calls.{Gives, ahead_of, source_of};
+ghost use Rattle.decl_reader.specs.Calls.{ReadsBlock, ahead_of, sections_of};
 ghost use Rattle.decl_reader.specs.Spellings.{IsSpelling, IsKind, spelling_shape, kind_shape};
 
 use crate::block::{Block, read_text, read_truth};
-use crate::fault::ReadFault;
-use code_tables::{Basic, Const};
-use position_codec::Parts;
+use crate::fault::DeclFault;
+use code_tables::Basic;
+use file_parts::Parts;
+use go_values::Const;
 use std::alloc::Global;
 use wire_bytes::{ByteFault, uvarint_of};
 
@@ -73,17 +74,17 @@ pub(crate) fn read_value(
     parts: &Parts<'_>,
     spelling: Spelling,
     block: &mut Block<'_>,
-) -> Result<Const, ReadFault>
+) -> Result<Const, DeclFault>
     requires sections { IsOfFile parts.now }
     requires spelling { IsSpelling spelling }
-    ensures { Gives (λ x. x) result (ahead_of block.new) (value_at (source_of parts.now) (spelling_shape spelling) (ahead_of block.old)) }
+    ensures { ReadsBlock (λ x. x) result (ahead_of block.new) (value_at (sections_of parts.now) (spelling_shape spelling) (ahead_of block.old)) }
 {
     read_kind(parts.version, spelling, block)?;
     read_spelled(alloc, parts, spelling, block)
 }
 
-fn read_kind(version: u8, spelling: Spelling, block: &mut Block<'_>) -> Result<(), ReadFault>
-    ensures { Gives (λ _. tt) result (ahead_of block.new) (kind_at version (spelling_shape spelling) (ahead_of block.old)) }
+fn read_kind(version: u8, spelling: Spelling, block: &mut Block<'_>) -> Result<(), DeclFault>
+    ensures { ReadsBlock (λ _. tt) result (ahead_of block.new) (kind_at version (spelling_shape spelling) (ahead_of block.old)) }
 {
     if version == 1 {
         return Ok(());
@@ -92,15 +93,15 @@ fn read_kind(version: u8, spelling: Spelling, block: &mut Block<'_>) -> Result<(
 }
 
 #[tactic(auto, unfolding(decl_spelling::specs::Constants::kind_given_at))]
-fn read_given_kind(spelling: Spelling, block: &mut Block<'_>) -> Result<(), ReadFault>
-    ensures { Gives (λ _. tt) result (ahead_of block.new) (kind_given_at (spelling_shape spelling) (ahead_of block.old)) }
+fn read_given_kind(spelling: Spelling, block: &mut Block<'_>) -> Result<(), DeclFault>
+    ensures { ReadsBlock (λ _. tt) result (ahead_of block.new) (kind_given_at (spelling_shape spelling) (ahead_of block.old)) }
 {
     let at = block.cursor.place() as u64;
     let value = uvarint_of(block.cursor.varint()?);
     if value == 2 * kind_number(spelling) {
         Ok(())
     } else {
-        Err(ReadFault::Bytes(ByteFault::Tag { at, value }))
+        Err(DeclFault::Bytes(ByteFault::Tag { at, value }))
     }
 }
 
@@ -120,10 +121,10 @@ fn read_spelled(
     parts: &Parts<'_>,
     spelling: Spelling,
     block: &mut Block<'_>,
-) -> Result<Const, ReadFault>
+) -> Result<Const, DeclFault>
     requires sections { IsOfFile parts.now }
     requires spelling { IsSpelling spelling }
-    ensures { Gives (λ x. x) result (ahead_of block.new) (spelled_at (source_of parts.now) (spelling_shape spelling) (ahead_of block.old)) }
+    ensures { ReadsBlock (λ x. x) result (ahead_of block.new) (spelled_at (sections_of parts.now) (spelling_shape spelling) (ahead_of block.old)) }
 {
     match spelling {
         Spelling::Flag => Ok(Const::Bool(read_truth(block)?)),

@@ -9,7 +9,7 @@ ghost use Rattle.decl_reader.specs.Blocks.{AllInside};
 ghost use Rattle.decl_reader.specs.Forms.{decl_form};
 ghost use Rattle.decl_reader.specs.Meant.{named_by, decl_meant};
 
-use crate::fault::ReadFault;
+use crate::fault::DeclFault;
 use crate::flat::DeclParts;
 use crate::nodes::kept::Kept;
 use crate::nodes::numbers::Numbers;
@@ -24,20 +24,20 @@ pub(crate) fn add_declaration(
     parts: DeclParts,
     table: &Table,
     arena: &mut Arena,
-) -> Result<DeclNode, ReadFault>
+) -> Result<DeclNode, DeclFault>
     requires inside { AllInside (length arena.old.nodes) table.now.blocks.entries }
     ensures denotes { IfOk result (λ node. decl_of arena.new.nodes node ≡ decl_meant (named_by version arena.old.nodes table.now.blocks.entries) (decl_form parts)) }
     ensures within { IfOk result (λ node. AllBelow (length arena.new.nodes) (decl_nodes node)) }
     ensures extends { Extends arena.old arena.new }
     ensures only_memory { IfErr result IsNoFault }
-    ensures full { IsErrOf result ReadFault.Nodes → length arena.new.nodes ≡ arena.new.limit }
+    ensures full { IsErrOf result DeclFault.Nodes → length arena.new.nodes ≡ arena.new.limit }
 {
     parts.with_nodes(alloc, version, table, arena)
 }
 
 impl Kept for DeclParts {
     ghost use Rattle.std.specs.Prelude.{ℕ};
-    ghost use Rattle.code_tables.specs.declared.positions.Pos.{Pos};
+    ghost use Rattle.go_values.specs.declared.positions.Pos.{Pos};
     ghost use Rattle.type_terms.specs.Declarations.{Form, Decl, form_types, decl_form as node_form};
     ghost use Rattle.type_terms.specs.Trees.{Text};
     ghost use Rattle.decl_reader.specs.Forms.{decl_form};
@@ -65,7 +65,7 @@ impl Kept for DeclParts {
         version: u8,
         table: &Table,
         arena: &mut Arena,
-    ) -> Result<DeclNode, ReadFault> {
+    ) -> Result<DeclNode, DeclFault> {
         match self {
             DeclParts::Var { pos, ty } => {
                 let ty = ty.with_nodes(alloc, version, table, arena)?;

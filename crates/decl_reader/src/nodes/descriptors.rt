@@ -11,7 +11,7 @@ ghost use Rattle.decl_reader.specs.Blocks.{AllInside, table_of};
 ghost use Rattle.decl_reader.specs.Meant.{IsGenericFlat};
 ghost use Rattle.decl_reader.specs.Shapes.{flat_shape};
 
-use crate::fault::ReadFault;
+use crate::fault::DeclFault;
 use crate::flat::Flat;
 use crate::nodes::kept::Kept;
 use crate::nodes::numbers::Numbers;
@@ -27,14 +27,14 @@ pub(crate) fn add_flat(
     flat: Flat,
     table: &Table,
     arena: &mut Arena,
-) -> Result<NodeId, ReadFault>
+) -> Result<NodeId, DeclFault>
     requires inside { AllInside (length arena.old.nodes) table.now.blocks.entries }
     requires generic { IsGenericFlat version (table_of arena.old.nodes table.now.blocks.entries) (flat_shape flat) }
     ensures denotes { IfOk result (λ id. tree arena.new.nodes id ≡ tree_of (retype (type_named version (table_of arena.old.nodes table.now.blocks.entries)) (flat_shape flat))) }
     ensures within { IfOk result (λ id. id < length arena.new.nodes) }
     ensures extends { Extends arena.old arena.new }
     ensures only_memory { IfErr result IsNoFault }
-    ensures full { IsErrOf result ReadFault.Nodes → length arena.new.nodes ≡ arena.new.limit }
+    ensures full { IsErrOf result DeclFault.Nodes → length arena.new.nodes ≡ arena.new.limit }
 {
     let node = flat.with_nodes(alloc, version, table, arena)?;
     Ok(arena.add(node)?)
@@ -42,7 +42,7 @@ pub(crate) fn add_flat(
 
 impl Kept for Flat {
     ghost use Rattle.std.specs.Prelude.{ℕ};
-    ghost use Rattle.code_tables.specs.declared.positions.Pos.{Pos};
+    ghost use Rattle.go_values.specs.declared.positions.Pos.{Pos};
     ghost use Rattle.type_terms.specs.NodeShapes.{node_shape};
     ghost use Rattle.type_terms.specs.Shapes.{Shape as ShapeOf, shape_types};
     ghost use Rattle.type_terms.specs.Trees.{Text, Level};
@@ -71,7 +71,7 @@ impl Kept for Flat {
         version: u8,
         table: &Table,
         arena: &mut Arena,
-    ) -> Result<Node, ReadFault> {
+    ) -> Result<Node, DeclFault> {
         match self {
             Flat::Defined(name) => Ok(Node::Named(name)),
             Flat::TypeParameter(name) => Ok(Node::Param(name)),

@@ -8,7 +8,7 @@ ghost use Rattle.decl_reader.specs.Faults.{IsNoFault};
 ghost use Rattle.decl_reader.specs.Blocks.{AllInside};
 ghost use Rattle.decl_reader.specs.Meant.{named_by};
 
-use crate::fault::ReadFault;
+use crate::fault::DeclFault;
 use crate::table::Table;
 use std::alloc::Global;
 use type_terms::{Arena, Sequence};
@@ -47,13 +47,13 @@ pub(crate) trait Kept: Drop {
         version: u8,
         table: &Table,
         arena: &mut Arena,
-    ) -> Result<Self::Item, ReadFault>
+    ) -> Result<Self::Item, DeclFault>
         requires inside { AllInside (length arena.old.nodes) table.now.blocks.entries }
         ensures meant { IfOk result (λ item. meant (tree arena.new.nodes) (item_shape item) ≡ meant (named_by version arena.old.nodes table.now.blocks.entries) (shape self)) }
         ensures within { IfOk result (λ item. AllBelow (length arena.new.nodes) (types (item_shape item))) }
         ensures extends { Extends arena.old arena.new }
         ensures only_memory { IfErr result IsNoFault }
-        ensures full { IsErrOf result ReadFault.Nodes → length arena.new.nodes ≡ arena.new.limit };
+        ensures full { IsErrOf result DeclFault.Nodes → length arena.new.nodes ≡ arena.new.limit };
 
     /// The types decide what is meant.
     ghost agrees: { (f g : Named) (x : Shape) → AllByRecursion (Agree f g) (types x) → meant f x ≡ meant g x };
@@ -66,13 +66,13 @@ pub(crate) fn all_with_nodes<T: Kept>(
     version: u8,
     table: &Table,
     arena: &mut Arena,
-) -> Result<Vec<T::Item>, ReadFault>
+) -> Result<Vec<T::Item>, DeclFault>
     requires inside { AllInside (length arena.old.nodes) table.now.blocks.entries }
     ensures meant { IfOk result (λ kept. map (T.meant (tree arena.new.nodes)) (map T.item_shape kept.items) ≡ map (T.meant (named_by version arena.old.nodes table.now.blocks.entries)) (map T.shape parts.items)) }
     ensures within { IfOk result (λ kept. AllBelow (length arena.new.nodes) (flat_map T.types (map T.item_shape kept.items))) }
     ensures extends { Extends arena.old arena.new }
     ensures only_memory { IfErr result IsNoFault }
-    ensures full { IsErrOf result ReadFault.Nodes → length arena.new.nodes ≡ arena.new.limit }
+    ensures full { IsErrOf result DeclFault.Nodes → length arena.new.nodes ≡ arena.new.limit }
 {
     let mut kept = Vec::new(alloc);
     for part in parts {
@@ -109,7 +109,7 @@ impl<T: Kept> Kept for Vec<T> {
         version: u8,
         table: &Table,
         arena: &mut Arena,
-    ) -> Result<Sequence<T::Item>, ReadFault> {
+    ) -> Result<Sequence<T::Item>, DeclFault> {
         let kept = all_with_nodes(alloc, self, version, table, arena)?;
         Ok(Sequence::from_items(kept))
     }
@@ -142,7 +142,7 @@ impl<A: Kept, B: Kept> Kept for (A, B) {
         version: u8,
         table: &Table,
         arena: &mut Arena,
-    ) -> Result<(A::Item, B::Item), ReadFault> {
+    ) -> Result<(A::Item, B::Item), DeclFault> {
         let (first, second) = self;
         let first = first.with_nodes(alloc, version, table, arena)?;
         let second = second.with_nodes(alloc, version, table, arena)?;

@@ -2,11 +2,11 @@
 
 ghost use Rattle.std.specs.Prelude.{◌≡◌, []};
 
-use crate::fault::ReadFault;
+use crate::fault::DeclFault;
 use crate::flat::{FieldParts, MethodParts, Param, ReceiverParts, Signature, TermParts};
 use crate::nodes::kept::Kept;
 use crate::table::Table;
-use code_tables::Bytes;
+use go_values::Bytes;
 use std::alloc::Global;
 use type_terms::{Arena, Field, IMethod, Method, Origin, ParamNode, Sig, Term};
 
@@ -21,7 +21,7 @@ fn no_origin(alloc: Global) -> Origin
 }
 
 impl Kept for Param {
-    ghost use Rattle.code_tables.specs.declared.positions.Pos.{Pos};
+    ghost use Rattle.go_values.specs.declared.positions.Pos.{Pos};
     ghost use Rattle.type_terms.specs.Shapes.{ParamOf, param_types};
     ghost use Rattle.type_terms.specs.Trees.{Text, Tree};
     ghost use Rattle.std.specs.Prelude.{ℕ};
@@ -51,7 +51,7 @@ impl Kept for Param {
         version: u8,
         table: &Table,
         arena: &mut Arena,
-    ) -> Result<ParamNode, ReadFault> {
+    ) -> Result<ParamNode, DeclFault> {
         let ty = self.ty.with_nodes(alloc, version, table, arena)?;
         Ok(ParamNode {
             pos: self.pos,
@@ -62,7 +62,7 @@ impl Kept for Param {
 }
 
 impl Kept for Signature {
-    ghost use Rattle.code_tables.specs.declared.positions.Pos.{Pos};
+    ghost use Rattle.go_values.specs.declared.positions.Pos.{Pos};
     ghost use Rattle.type_terms.specs.Shapes.{SigOf, sig_types};
     ghost use Rattle.type_terms.specs.Trees.{Text, Tree};
     ghost use Rattle.std.specs.Prelude.{ℕ};
@@ -92,7 +92,7 @@ impl Kept for Signature {
         version: u8,
         table: &Table,
         arena: &mut Arena,
-    ) -> Result<Sig, ReadFault> {
+    ) -> Result<Sig, DeclFault> {
         let lists = (self.params, self.results);
         let (params, results) = lists.with_nodes(alloc, version, table, arena)?;
         Ok(Sig {
@@ -104,7 +104,7 @@ impl Kept for Signature {
 }
 
 impl Kept for FieldParts {
-    ghost use Rattle.code_tables.specs.declared.positions.Pos.{Pos};
+    ghost use Rattle.go_values.specs.declared.positions.Pos.{Pos};
     ghost use Rattle.type_terms.specs.Shapes.{FieldOf, field_types};
     ghost use Rattle.type_terms.specs.Trees.{Text, Tree};
     ghost use Rattle.std.specs.Prelude.{ℕ};
@@ -134,7 +134,7 @@ impl Kept for FieldParts {
         version: u8,
         table: &Table,
         arena: &mut Arena,
-    ) -> Result<Field, ReadFault> {
+    ) -> Result<Field, DeclFault> {
         let ty = self.ty.with_nodes(alloc, version, table, arena)?;
         Ok(Field {
             origin: no_origin(alloc),
@@ -148,7 +148,7 @@ impl Kept for FieldParts {
 }
 
 impl Kept for MethodParts {
-    ghost use Rattle.code_tables.specs.declared.positions.Pos.{Pos};
+    ghost use Rattle.go_values.specs.declared.positions.Pos.{Pos};
     ghost use Rattle.type_terms.specs.Shapes.{MethodOf, method_types};
     ghost use Rattle.type_terms.specs.Trees.{Text, Tree};
     ghost use Rattle.std.specs.Prelude.{ℕ};
@@ -178,7 +178,7 @@ impl Kept for MethodParts {
         version: u8,
         table: &Table,
         arena: &mut Arena,
-    ) -> Result<IMethod, ReadFault> {
+    ) -> Result<IMethod, DeclFault> {
         let sig = self.signature.with_nodes(alloc, version, table, arena)?;
         Ok(IMethod {
             origin: no_origin(alloc),
@@ -219,7 +219,7 @@ impl Kept for TermParts {
         version: u8,
         table: &Table,
         arena: &mut Arena,
-    ) -> Result<Term, ReadFault> {
+    ) -> Result<Term, DeclFault> {
         let ty = self.ty.with_nodes(alloc, version, table, arena)?;
         Ok(Term {
             tilde: self.tilde,
@@ -229,7 +229,7 @@ impl Kept for TermParts {
 }
 
 impl Kept for ReceiverParts {
-    ghost use Rattle.code_tables.specs.declared.positions.Pos.{Pos};
+    ghost use Rattle.go_values.specs.declared.positions.Pos.{Pos};
     ghost use Rattle.type_terms.specs.Declarations.{ReceiverOf, receiver_types, receiver_shape as node_receiver};
     ghost use Rattle.type_terms.specs.Trees.{Text, Tree};
     ghost use Rattle.std.specs.Prelude.{ℕ};
@@ -258,7 +258,7 @@ impl Kept for ReceiverParts {
         version: u8,
         table: &Table,
         arena: &mut Arena,
-    ) -> Result<Method, ReadFault> {
+    ) -> Result<Method, DeclFault> {
         let types = (self.recv, self.signature);
         let (recv, sig) = types.with_nodes(alloc, version, table, arena)?;
         Ok(Method {

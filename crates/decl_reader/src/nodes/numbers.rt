@@ -8,7 +8,7 @@ ghost use Rattle.decl_reader.specs.Blocks.{AllInside};
 ghost use Rattle.decl_reader.specs.Meant.{named_by};
 
 use crate::codes::basic_of;
-use crate::fault::ReadFault;
+use crate::fault::DeclFault;
 use crate::nodes::kept::{Kept, all_with_nodes};
 use crate::table::Table;
 use code_tables::Basic;
@@ -22,13 +22,13 @@ fn node_named(
     number: u64,
     table: &Table,
     arena: &mut Arena,
-) -> Result<NodeId, ReadFault>
+) -> Result<NodeId, DeclFault>
     requires inside { AllInside (length arena.old.nodes) table.now.blocks.entries }
     ensures named { IfOk result (λ id. tree arena.new.nodes id ≡ named_by version arena.old.nodes table.now.blocks.entries number) }
     ensures within { IfOk result (λ id. id < length arena.new.nodes) }
     ensures extends { Extends arena.old arena.new }
     ensures only_memory { IfErr result IsNoFault }
-    ensures full { IsErrOf result ReadFault.Nodes → length arena.new.nodes ≡ arena.new.limit }
+    ensures full { IsErrOf result DeclFault.Nodes → length arena.new.nodes ≡ arena.new.limit }
 {
     if number < 32 {
         let basic = basic_of(version, number).unwrap_or(Basic::Bool);
@@ -68,7 +68,7 @@ impl Kept for u64 {
         version: u8,
         table: &Table,
         arena: &mut Arena,
-    ) -> Result<NodeId, ReadFault> {
+    ) -> Result<NodeId, DeclFault> {
         node_named(version, self, table, arena)
     }
 }
@@ -106,7 +106,7 @@ impl Kept for Numbers {
         version: u8,
         table: &Table,
         arena: &mut Arena,
-    ) -> Result<Nodes, ReadFault> {
+    ) -> Result<Nodes, DeclFault> {
         let ids = all_with_nodes(alloc, self.items, version, table, arena)?;
         Ok(Nodes::from_items(ids))
     }

@@ -4,17 +4,16 @@ ghost use Rattle.std.specs.Prelude.{◌≡◌, ◌≤◌, length, Some, IfOk, On
 ghost use Rattle.std.specs.Option.{option_copied};
 ghost use Rattle.std.specs.List.{AllByRecursion};
 ghost use Rattle.wire_bytes.specs.Reading.{GivesBy};
-ghost use Rattle.position_codec.specs.Order.{rises};
+ghost use Rattle.file_parts.specs.Order.{rises};
 ghost use Rattle.name_index.specs.FirstBreach.{text_offset_at, entry_at, entries_at};
-ghost use Rattle.position_codec.specs.Paths.{text_of, IsInside};
+ghost use Rattle.file_parts.specs.Paths.{text_of, IsInside};
 ghost use Rattle.name_index.specs.Records.{entry_of, fault_of};
 
-use crate::fault::OpenFault;
 use crate::records::EntryRecord;
-use position_codec::TextSpan;
+use file_parts::TextSpan;
 use std::alloc::Global;
 use std::cmp::Ordering;
-use wire_bytes::{ByteFault, Cursor, text_span};
+use wire_bytes::{ByteFault, Cursor, ReadFault, text_span};
 
 /// An offset into the string section, and where the text stands to which it leads.
 #[tactic(auto, unfolding(crate::specs::FirstBreach::text_offset_at))]
@@ -87,7 +86,7 @@ pub(crate) fn read_entries(
     strings: &[u8],
     size: u32,
     count: u64,
-) -> Result<Vec<EntryRecord>, OpenFault>
+) -> Result<Vec<EntryRecord>, ReadFault>
     requires { length strings.now ≤ 16777216 }
     ensures inside { IfOk result (λ v. AllByRecursion (λ e. IsInside strings.now e.name) v.items) }
     ensures progress { IfOk result (λ v. length v.items + length cursor.new.left ≤ length cursor.old.left) }

@@ -7,12 +7,11 @@ ghost use Rattle.wire_bytes.specs.Reading.{GivesBy};
 ghost use Rattle.name_index.specs.FirstBreach.{path_rule, package_at, packages_at, index_at};
 ghost use Rattle.name_index.specs.Records.{IsPackageInside, IsNumbered, name_count, package_of, fault_of};
 
-use crate::fault::OpenFault;
 use crate::full::entries::{read_entries, read_text};
 use crate::records::PackageRecord;
 use std::alloc::Global;
 use std::cmp::Ordering;
-use wire_bytes::{ByteFault, Cursor};
+use wire_bytes::{ByteFault, Cursor, ReadFault};
 
 /// The first path of an index is empty. A later one is above the one before it, and isn't the file's own.
 fn check_path(
@@ -44,7 +43,7 @@ fn read_package(
     size: u32,
     first: u32,
     last: Option<&[u8]>,
-) -> Result<PackageRecord, OpenFault>
+) -> Result<PackageRecord, ReadFault>
     requires { length strings.now ≤ 16777216 }
     ensures inside { IfOk result (λ p. IsPackageInside strings.now p) }
     ensures first { IfOk result (λ p. p.first ≡ first) }
@@ -75,7 +74,7 @@ fn read_packages(
     strings: &[u8],
     size: u32,
     count: u64,
-) -> Result<Vec<PackageRecord>, OpenFault>
+) -> Result<Vec<PackageRecord>, ReadFault>
     requires strings { length strings.now ≤ 16777216 }
     requires left { length cursor.old.left ≤ 16777216 }
     ensures inside { IfOk result (λ v. AllByRecursion (λ p. IsPackageInside strings.now p) v.items) }
@@ -104,7 +103,7 @@ pub(crate) fn read_index(
     own: &[u8],
     strings: &[u8],
     size: u32,
-) -> Result<Vec<PackageRecord>, OpenFault>
+) -> Result<Vec<PackageRecord>, ReadFault>
     requires strings { length strings.now ≤ 16777216 }
     requires left { length cursor.old.left ≤ 16777216 }
     ensures inside { IfOk result (λ v. AllByRecursion (λ p. IsPackageInside strings.now p) v.items) }
@@ -116,7 +115,7 @@ pub(crate) fn read_index(
     let at = cursor.place() as u64;
     let count = cursor.uvarint()?;
     if count == 0 {
-        return Err(OpenFault::Bytes(ByteFault::Range { at, value: 0 }));
+        return Err(ReadFault::Bytes(ByteFault::Range { at, value: 0 }));
     }
     read_packages(alloc, cursor, own, strings, size, count)
 }

@@ -4,14 +4,14 @@ use Rattle.decl_spelling.specs.Constants.{basic_type}
 use Rattle.decl_spelling.specs.Declarations.{read}
 use Rattle.decl_spelling.specs.Tables.{type_named}
 use Rattle.decl_reader.specs.Blocks.{table_of}
-use Rattle.decl_reader.specs.Calls.{source_of, ahead_of}
+use Rattle.decl_reader.specs.Calls.{sections_of, ahead_of}
 use Rattle.decl_reader.specs.Wholes.{value_by}
 use Rattle.decl_reader.proofs.Wholes.{value_then, then_fault, fault_as}
 use Rattle.decl_reader.proofs.declaration.read_rest.Goals as goal
 
 pub returns-in_err-value-in-Constant-clause-exact : goal.returns-in_err-value-in-Constant-clause-exact
 returns-in_err-value-in-Constant-clause-exact g c =
-    let src = source_of c.args.parts.now in
+    let src = sections_of c.args.parts.now in
     let done = table_of c.args.arena.now.nodes c.args.table.now.blocks.entries in
     let basics = g.B.Basics.meaning c.args.basics.now in
     let a = ahead_of c.args.block.now in

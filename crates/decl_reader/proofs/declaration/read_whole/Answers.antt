@@ -3,7 +3,7 @@ use Rattle.std.proofs.lemmas.Result.{err_from_is_err_and}
 use Rattle.wire_bytes.specs.Reading.{place}
 use Rattle.decl_spelling.specs.Declarations.{Read}
 use Rattle.decl_reader.specs.Blocks.{table_of}
-use Rattle.decl_reader.specs.Calls.{source_of, ahead_of}
+use Rattle.decl_reader.specs.Calls.{sections_of, ahead_of}
 use Rattle.decl_reader.specs.Forms.{head_shape, decl_form}
 use Rattle.decl_reader.proofs.Beginnings.{body_length}
 use Rattle.decl_reader.proofs.Counted.{counts_first, counts_twice, counts_most, if_either, lies_in, reached_is, reached_most, counts_reached}
@@ -12,7 +12,7 @@ use Rattle.decl_reader.proofs.declaration.read_whole.Goals as goal
 
 pub returns-in_err-head-clause-exact : goal.returns-in_err-head-clause-exact
 returns-in_err-head-clause-exact g c =
-    let src = source_of c.args.parts.now in
+    let src = sections_of c.args.parts.now in
     let basics = g.B.Basics.meaning c.args.basics.now in
     let p = err_from_is_err_and c.from_residual.result c.from_residual.ensures.1 in
     let same = first_is src basics c.args.offset (ahead_of c.new-block.result) _ _ c.new-block.ensures (body_length c.args.parts.now c.requires.of_file) (ap (table_of c.args.arena.now.nodes) c.new-table.ensures) in
@@ -20,7 +20,7 @@ returns-in_err-head-clause-exact g c =
 
 pub returns-in_err-whole-clause-exact : goal.returns-in_err-whole-clause-exact
 returns-in_err-whole-clause-exact g c =
-    let src = source_of c.args.parts.now in
+    let src = sections_of c.args.parts.now in
     let basics = g.B.Basics.meaning c.args.basics.now in
     let p = err_from_is_err_and c.from_residual-in_err-whole.result c.from_residual-in_err-whole.ensures.1 in
     let same = first_is src basics c.args.offset (ahead_of c.new-block.result) _ _ c.new-block.ensures (body_length c.args.parts.now c.requires.of_file) (ap (table_of c.args.arena.now.nodes) c.new-table.ensures) in
@@ -28,7 +28,7 @@ returns-in_err-whole-clause-exact g c =
 
 pub returns-clause-exact : goal.returns-clause-exact
 returns-clause-exact g c =
-    let src = source_of c.args.parts.now in
+    let src = sections_of c.args.parts.now in
     let basics = g.B.Basics.meaning c.args.basics.now in
     let same = first_is src basics c.args.offset (ahead_of c.new-block.result) _ _ c.new-block.ensures (body_length c.args.parts.now c.requires.of_file) (ap (table_of c.args.arena.now.nodes) c.new-table.ensures) in
     kept_is src basics c.args.offset (head_shape c.in_ok-head.head) _ _ _ c.add_declaration.new.arena.nodes c.add_declaration.result (sym same ∙ c.in_ok-head.ensures.exact) c.in_ok-whole.ensures.exact
@@ -51,7 +51,7 @@ returns-in_err-whole-clause-at_most g c =
 pub overflow_sub-end : goal.overflow_sub-end
 overflow_sub-end g c =
     let p = c.args.parts.now in
-    let src = source_of p in
+    let src = sections_of p in
     let basics = g.B.Basics.meaning c.args.basics.now in
     let size = body_length p c.requires.of_file in
     let same = first_is src basics c.args.offset (ahead_of c.new-block.result) _ _ c.new-block.ensures size (ap (table_of c.args.arena.now.nodes) c.new-table.ensures) in
@@ -65,7 +65,7 @@ overflow_sub-end g c =
 pub overflow_sub-end-2 : goal.overflow_sub-end-2
 overflow_sub-end-2 g c =
     let p = c.args.parts.now in
-    let src = source_of p in
+    let src = sections_of p in
     let basics = g.B.Basics.meaning c.args.basics.now in
     let size = body_length p c.requires.of_file in
     let same = first_is src basics c.args.offset (ahead_of c.new-block.result) _ _ c.new-block.ensures size (ap (table_of c.args.arena.now.nodes) c.new-table.ensures) in
@@ -79,7 +79,7 @@ overflow_sub-end-2 g c =
 pub returns-clause-counted : goal.returns-clause-counted
 returns-clause-counted g c =
     let p = c.args.parts.now in
-    let src = source_of p in
+    let src = sections_of p in
     let basics = g.B.Basics.meaning c.args.basics.now in
     let size = body_length p c.requires.of_file in
     let same = first_is src basics c.args.offset (ahead_of c.new-block.result) _ _ c.new-block.ensures size (ap (table_of c.args.arena.now.nodes) c.new-table.ensures) in
@@ -97,7 +97,7 @@ returns-clause-counted g c =
 pub returns-clause-at_most : goal.returns-clause-at_most
 returns-clause-at_most g c =
     let p = c.args.parts.now in
-    let src = source_of p in
+    let src = sections_of p in
     let basics = g.B.Basics.meaning c.args.basics.now in
     let size = body_length p c.requires.of_file in
     let same = first_is src basics c.args.offset (ahead_of c.new-block.result) _ _ c.new-block.ensures size (ap (table_of c.args.arena.now.nodes) c.new-table.ensures) in

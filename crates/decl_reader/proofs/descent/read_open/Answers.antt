@@ -4,7 +4,7 @@ use Rattle.std.proofs.lemmas.List.{reverse-reverse}
 use Rattle.std.proofs.lemmas.Result.{err_from_is_err_and}
 use Rattle.decl_reader.specs.declared.descent.Open.{Open}
 use Rattle.decl_reader.specs.Blocks.{table_of}
-use Rattle.decl_reader.specs.Calls.{source_of}
+use Rattle.decl_reader.specs.Calls.{sections_of}
 use Rattle.decl_reader.proofs.Running.{Running, none_goes_on, some_opens, some_smaller, returns_to, fault_resolves, never_full, full_is, known_smaller, last_first}
 use Rattle.decl_reader.proofs.descent.read_open.Goals as goal
 
@@ -13,13 +13,13 @@ returns-in_err-begin-clause-exact g c =
     let p = err_from_is_err_and c.from_residual.result c.from_residual.ensures.1 in
     let size = c.len.ensures in
     let less = c.if-current-len.true in
-    rw (p.1, p.2) (fault_resolves (source_of c.args.parts.now) c.args.first (table_of c.args.arena.now.nodes c.args.table.now.blocks.entries) c.args.arena.now c.loop-current.arena c.loop-current.table.blocks.entries c.loop-current.current (reverse c.loop-current.holders.items) c.index-named.result.now
+    rw (p.1, p.2) (fault_resolves (sections_of c.args.parts.now) c.args.first (table_of c.args.arena.now.nodes c.args.table.now.blocks.entries) c.args.arena.now c.loop-current.arena c.loop-current.table.blocks.entries c.loop-current.current (reverse c.loop-current.holders.items) c.index-named.result.now
     c.index-named.ensures c.loop-current.invariant.0 (omega (arith, size, less)) c.in_err-begin.field-0.0 _ c.in_err-begin.ensures)
 
 pub returns-in_err-begin-clause-full : goal.returns-in_err-begin-clause-full
 returns-in_err-begin-clause-full g c full =
     let p = err_from_is_err_and c.from_residual.result c.from_residual.ensures.1 in
-    absurd (never_full (source_of c.args.parts.now) (table_of c.loop-current.arena.nodes c.loop-current.table.blocks.entries) c.loop-current.table.blocks.entries c.loop-current.current.start c.index-named.result.now c.in_err-begin.field-0.0 c.in_err-begin.ensures (sym p.2 ∙ full_is c.from_residual.result p.0 p.1 full))
+    absurd (never_full (sections_of c.args.parts.now) (table_of c.loop-current.arena.nodes c.loop-current.table.blocks.entries) c.loop-current.table.blocks.entries c.loop-current.current.start c.index-named.result.now c.in_err-begin.field-0.0 c.in_err-begin.ensures (sym p.2 ∙ full_is c.from_residual.result p.0 p.1 full))
 
 pub loop-current-smaller-in-None : goal.loop-current-smaller-in-None
 loop-current-smaller-in-None g c =
@@ -31,7 +31,7 @@ pub loop-current-preserved-in-None : goal.loop-current-preserved-in-None
 loop-current-preserved-in-None g c =
     let size = c.len.ensures in
     let less = c.if-current-len.true in (
-      none_goes_on (source_of c.args.parts.now) c.args.first (table_of c.args.arena.now.nodes c.args.table.now.blocks.entries) c.args.arena.now c.loop-current.arena c.loop-current.table.blocks.entries c.loop-current.current (reverse c.loop-current.holders.items) c.index-named.result.now
+      none_goes_on (sections_of c.args.parts.now) c.args.first (table_of c.args.arena.now.nodes c.args.table.now.blocks.entries) c.args.arena.now c.loop-current.arena c.loop-current.table.blocks.entries c.loop-current.current (reverse c.loop-current.holders.items) c.index-named.result.now
           c.index-named.ensures c.loop-current.invariant.0 (omega (arith, size, less)) c.in_ok-begin.field-0 c.in-None.is c.in_ok-begin.ensures,
       c.loop-current.invariant.1,
     )
@@ -40,7 +40,7 @@ pub loop-current-smaller-in-Some : goal.loop-current-smaller-in-Some
 loop-current-smaller-in-Some g c =
     let size = c.len.ensures in
     let less = c.if-current-len.true in
-    some_smaller (source_of c.args.parts.now) c.args.first (table_of c.args.arena.now.nodes c.args.table.now.blocks.entries) c.args.arena.now c.loop-current.arena c.loop-current.table.blocks.entries c.loop-current.current (reverse c.loop-current.holders.items) c.index-named.result.now
+    some_smaller (sections_of c.args.parts.now) c.args.first (table_of c.args.arena.now.nodes c.args.table.now.blocks.entries) c.args.arena.now c.loop-current.arena c.loop-current.table.blocks.entries c.loop-current.current (reverse c.loop-current.holders.items) c.index-named.result.now
     c.index-named.ensures c.loop-current.invariant.0 (omega (arith, size, less)) c.in_ok-begin.field-0 c.in-Some.inner c.push.new.self.items c.in-Some.is c.in_ok-begin.ensures
     (c.in_ok-push-in-Some.ensures.items ∙ ap (λ (os : List Open). os ++ c.loop-current.current ∷ []) (sym (reverse-reverse c.loop-current.holders.items)))
 
@@ -48,7 +48,7 @@ pub loop-current-preserved-in-Some : goal.loop-current-preserved-in-Some
 loop-current-preserved-in-Some g c =
     let size = c.len.ensures in
     let less = c.if-current-len.true in (
-      some_opens (source_of c.args.parts.now) c.args.first (table_of c.args.arena.now.nodes c.args.table.now.blocks.entries) c.args.arena.now c.loop-current.arena c.loop-current.table.blocks.entries c.loop-current.current (reverse c.loop-current.holders.items) c.index-named.result.now
+      some_opens (sections_of c.args.parts.now) c.args.first (table_of c.args.arena.now.nodes c.args.table.now.blocks.entries) c.args.arena.now c.loop-current.arena c.loop-current.table.blocks.entries c.loop-current.current (reverse c.loop-current.holders.items) c.index-named.result.now
           c.index-named.ensures c.loop-current.invariant.0 (omega (arith, size, less)) c.in_ok-begin.field-0 c.in-Some.inner c.push.new.self.items c.in-Some.is c.in_ok-begin.ensures
           (c.in_ok-push-in-Some.ensures.items ∙ ap (λ (os : List Open). os ++ c.loop-current.current ∷ []) (sym (reverse-reverse c.loop-current.holders.items))),
       c.loop-current.invariant.1,
@@ -60,8 +60,8 @@ loop-current-preserved g c =
     let more = c.if-current-len.false in
     let some = c.loop-current.invariant.0.is_open.some in
     let popped : reverse c.loop-current.holders.items ≡ c.in-Some-pop.holder ∷ reverse c.pop.new.self.items = ap reverse c.in-Some-pop.ensures.items ∙ last_first c.pop.new.self.items c.in-Some-pop.holder in
-    let running = subst (λ (os : List Open). Running (source_of c.args.parts.now) c.args.first (table_of c.args.arena.now.nodes c.args.table.now.blocks.entries) c.args.arena.now c.loop-current.arena c.loop-current.table.blocks.entries c.loop-current.current os) popped c.loop-current.invariant.0 in (
-      returns_to (source_of c.args.parts.now) c.args.first (table_of c.args.arena.now.nodes c.args.table.now.blocks.entries) c.args.arena.now c.loop-current.arena c.close.new.arena c.loop-current.table.blocks.entries c.close.new.table.blocks.entries c.loop-current.current
+    let running = subst (λ (os : List Open). Running (sections_of c.args.parts.now) c.args.first (table_of c.args.arena.now.nodes c.args.table.now.blocks.entries) c.args.arena.now c.loop-current.arena c.loop-current.table.blocks.entries c.loop-current.current os) popped c.loop-current.invariant.0 in (
+      returns_to (sections_of c.args.parts.now) c.args.first (table_of c.args.arena.now.nodes c.args.table.now.blocks.entries) c.args.arena.now c.loop-current.arena c.close.new.arena c.loop-current.table.blocks.entries c.close.new.table.blocks.entries c.loop-current.current
           c.close.ensures.extends c.close.ensures.ready c.in-Some-pop.holder (reverse c.pop.new.self.items) running (omega (arith, size, more, some)) c.in_ok-close.ensures.exact c.in_ok-close.ensures.closed,
       omega (arith, c.loop-current.invariant.1, c.close.ensures.counted),
     )

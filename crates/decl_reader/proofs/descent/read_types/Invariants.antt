@@ -1,9 +1,9 @@
 use Rattle.decl_reader.specs.Blocks.{table_of}
-use Rattle.decl_reader.specs.Calls.{source_of}
+use Rattle.decl_reader.specs.Calls.{sections_of}
 use Rattle.decl_reader.specs.Opens.{Counts}
 use Rattle.decl_reader.proofs.Running.{Reading}
 use Rattle.decl_reader.proofs.descent.read_types.Given as goal
 
 abbrev pub invariant-loop-mention : goal.invariant-loop-mention
 invariant-loop-mention g l =
-    Reading (source_of l.parts) l.holder l.mentions (table_of l.fn.arena.nodes l.fn.table.blocks.entries) l.fn.arena l.arena l.table.blocks.entries l.mention-index × Counts l.fn.steps l.fn.table.blocks.entries l.steps l.table.blocks.entries
+    Reading (sections_of l.parts) l.holder l.mentions (table_of l.fn.arena.nodes l.fn.table.blocks.entries) l.fn.arena l.arena l.table.blocks.entries l.mention-index × Counts l.fn.steps l.fn.table.blocks.entries l.steps l.table.blocks.entries

@@ -1,7 +1,7 @@
 use Rattle.std.proofs.Common.{rules, ◌≡◌, ◌<◌, length, subst, None, arith}
 use Rattle.std.proofs.lemmas.Bool.Decides.{nat_tests}
 use Rattle.std.specs.Str.{chars}
-use Rattle.go_lexer.specs.Lexing.{lexed_text, Gives}
+use Rattle.go_lexer.specs.Lexing.{lexed_text, LexesAs}
 use Rattle.go_lexer.proofs.Turns.{blank_smaller, token_smaller, took_blank, took_token, took_stop, took_all, chars_some, chars_none}
 use Rattle.go_lexer.proofs.lexing.lex_text.Goals as goal
 
@@ -40,6 +40,6 @@ returns-in-Stop c =
 pub returns : goal.returns
 returns c =
     let empty : length c.loop-rest.rest.now ≡ 0 = grind (arith, nat_tests) in
-    subst (λ r. Gives (λ v. v.items) c.finish.result r)
+    subst (λ r. LexesAs (λ v. v.items) c.finish.result r)
     (took_all c.args.ending c.args.total c.loop-rest.owed (chars c.loop-rest.rest.now) c.loop-rest.tokens.items (lexed_text c.args.ending c.args.total None (chars c.args.text.now)) (chars_none c.loop-rest.rest.now empty) c.loop-rest.invariant.1)
     c.finish.ensures

@@ -1,6 +1,6 @@
 use Rattle.std.proofs.Common.{sym, subst}
 use Rattle.type_terms.specs.Environments.{decl_of}
-use Rattle.decl_spelling.specs.Source.{Source}
+use Rattle.decl_spelling.specs.Sections.{Sections}
 use Rattle.decl_spelling.specs.Declarations.{FirstFault}
 use Rattle.decl_spelling.specs.Spelling.{SpellsDecl}
 use Rattle.session.specs.Names.{comes_down}
@@ -11,12 +11,12 @@ pub returns-in-Ok-clause-outcome : goal.returns-in-Ok-clause-outcome
 returns-in-Ok-clause-outcome g c =
     let file = c.args.session.now.image.now in
     let source = source_is file c.parts.result c.parts.ensures.exact c.parts.ensures.of_file in
-    let spells = subst (λ (src : Source). SpellsDecl src (comes_down file) c.in-Some.offset (decl_of c.read_decl.new.arena.nodes c.in-Ok.node)) source c.in-Ok.ensures.found in
+    let spells = subst (λ (src : Sections). SpellsDecl src (comes_down file) c.in-Some.offset (decl_of c.read_decl.new.arena.nodes c.in-Ok.node)) source c.in-Ok.ensures.found in
     (c.in-Some.field-0-0.now, c.in-Some.field-0-1.now, (c.in-Some.offset, sym c.in-Some.ensures.exact, spells))
 
 pub returns-in-Err-Bytes-clause-outcome : goal.returns-in-Err-Bytes-clause-outcome
 returns-in-Err-Bytes-clause-outcome g c =
     let file = c.args.session.now.image.now in
     let source = source_is file c.parts.result c.parts.ensures.exact c.parts.ensures.of_file in
-    let fault = subst (λ (src : Source). FirstFault src (comes_down file) c.in-Some.offset c.in-Err-Bytes.fault) source (rw c.in-Err-Bytes.field-0-is at c.in-Err-Bytes.ensures).fault in
+    let fault = subst (λ (src : Sections). FirstFault src (comes_down file) c.in-Some.offset c.in-Err-Bytes.fault) source (rw c.in-Err-Bytes.field-0-is at c.in-Err-Bytes.ensures).fault in
     (c.in-Some.field-0-0.now, c.in-Some.field-0-1.now, (c.in-Some.offset, sym c.in-Some.ensures.exact, fault))

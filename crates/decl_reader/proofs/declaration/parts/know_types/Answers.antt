@@ -3,7 +3,7 @@ use Rattle.std.proofs.lemmas.Result.{err_from_is_err_and}
 use Rattle.decl_spelling.specs.declared.mention.Mention.{Mention}
 use Rattle.decl_spelling.specs.Descent.{block_at, resolve_all}
 use Rattle.decl_reader.specs.Blocks.{table_of}
-use Rattle.decl_reader.specs.Calls.{source_of}
+use Rattle.decl_reader.specs.Calls.{sections_of}
 use Rattle.decl_reader.proofs.Beginnings.{body_length}
 use Rattle.decl_reader.proofs.Running.{resolves_as}
 use Rattle.decl_reader.proofs.Wholes.{types_same}
@@ -11,7 +11,7 @@ use Rattle.decl_reader.proofs.declaration.parts.know_types.Goals as goal
 
 pub returns-in_err-read_types-clause-exact : goal.returns-in_err-read_types-clause-exact
 returns-in_err-read_types-clause-exact g c =
-    let src = source_of c.args.parts.now in
+    let src = sections_of c.args.parts.now in
     let done = table_of c.args.arena.now.nodes c.args.table.now.blocks.entries in
     let within : c.args.offset ≤ c.args.parts.now.body_len = c.requires.within in
     let size = body_length c.args.parts.now c.requires.of_file in
@@ -21,7 +21,7 @@ returns-in_err-read_types-clause-exact g c =
 
 pub returns-clause-exact : goal.returns-clause-exact
 returns-clause-exact g c =
-    let src = source_of c.args.parts.now in
+    let src = sections_of c.args.parts.now in
     let done = table_of c.args.arena.now.nodes c.args.table.now.blocks.entries in
     let within : c.args.offset ≤ c.args.parts.now.body_len = c.requires.within in
     let size = body_length c.args.parts.now c.requires.of_file in

@@ -1,10 +1,10 @@
 use Rattle.std.proofs.Common.{◌≡◌, ◌-◌, map}
 use Rattle.decl_spelling.specs.Reading.{times}
-use Rattle.decl_reader.specs.Calls.{ahead_of, source_of}
+use Rattle.decl_reader.specs.Calls.{ahead_of, sections_of}
 use Rattle.decl_reader.proofs.Lists.{with_front}
 use Rattle.decl_reader.proofs.flat.lists.read_times.Given as goal
 
 abbrev pub invariant-loop : goal.invariant-loop
 invariant-loop g l =
-    with_front (map g.T.Listed.shape l.items.items) (times (g.T.Listed.reading (source_of l.parts)) (l.count - l.counter) (ahead_of l.block))
-    ≡ times (g.T.Listed.reading (source_of l.parts)) l.count (ahead_of l.fn.block)
+    with_front (map g.T.Listed.shape l.items.items) (times (g.T.Listed.reading (sections_of l.parts)) (l.count - l.counter) (ahead_of l.block))
+    ≡ times (g.T.Listed.reading (sections_of l.parts)) l.count (ahead_of l.fn.block)

@@ -4,7 +4,7 @@ use Rattle.std.specs.List.{AllByRecursion}
 use Rattle.wire_bytes.specs.Reading.{many}
 use Rattle.wire_bytes.proofs.Many.{with_front}
 use Rattle.name_index.specs.FirstBreach.{entry_at, entries_at}
-use Rattle.position_codec.specs.Paths.{IsInside}
+use Rattle.file_parts.specs.Paths.{IsInside}
 use Rattle.name_index.specs.Records.{entry_of}
 use Rattle.name_index.proofs.full.entries.read_entries.Given as goal
 
