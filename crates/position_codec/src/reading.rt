@@ -13,8 +13,8 @@ ghost use Rattle.position_codec.specs.Position.{Position, moved_at, file_at, lin
 ghost use Rattle.position_codec.specs.Steps.{now_of};
 
 use crate::deltas::{is_odd, moved};
-use crate::parts::Parts;
 use crate::previous::PrevPos;
+use file_parts::Parts;
 use go_values::{Bytes, Pos};
 use std::alloc::{AllocError, Global};
 use wire_bytes::{ByteFault, Cursor, ReadFault, text_at, uvarint_of};
