@@ -100,11 +100,11 @@ gives_name file path name other_path other_name number offset outcome at gives =
     (offset, at, subst (λ (l : Listed). IsOutcomeAt file l.offset outcome) same gives.2)
 
 -- The name with this number was read: it has an outcome, which it gives.
-abbrev pub HasOutcome : FullFile → List ℕ → List ℕ → ℕ → List (ℕ × Outcome) → Type 0
-HasOutcome file path name number read = (outcome : Outcome) × HasOutcome file path name number outcome × (read_for read number ≡ Some outcome)
+abbrev pub HasRead : FullFile → List ℕ → List ℕ → ℕ → List (ℕ × Outcome) → Type 0
+HasRead file path name number read = (outcome : Outcome) × HasOutcome file path name number outcome × (read_for read number ≡ Some outcome)
 
 pub was_read : (file : FullFile) (nodes : List Node) (kept : List Kept) (path name : List ℕ) (number offset : ℕ) → AreRead file nodes kept → IsListed file.packages number path name offset
-    → is_some (lookup (is_at (nat_cmp number)) kept) ≡ true → HasOutcome file path name number (read_of nodes kept)
+    → is_some (lookup (is_at (nat_cmp number)) kept) ≡ true → HasRead file path name number (read_of nodes kept)
 was_read file nodes kept path name number offset all at has =
     let x = found_some (lookup (is_at (nat_cmp number)) kept) has in
     let is = all_found (IsRead file nodes) kept number x.0 all x.1 in
@@ -178,7 +178,7 @@ now_kept file old new before after number x grown all absent inside named is set
     }
 
 pub now_read : (file : FullFile) (nodes : List Node) (before after : List Kept) (path name : List ℕ) (number offset : ℕ) (x : Result DeclNode ByteFault) → IsListed file.packages number path name offset → IsNamed file nodes number x
-    → IsSet before after number x → HasOutcome file path name number (read_of nodes after)
+    → IsSet before after number x → HasRead file path name number (read_of nodes after)
 now_read file nodes before after path name number offset x at named sets =
     let here : is_at (nat_cmp number) number ≡ true = here_at number in
     let is = set_read nodes before after number x sets number ∙ ap (λ b. cond b (Some (outcome_of nodes x)) (read_for (read_of nodes before) number)) here in
@@ -193,11 +193,11 @@ adds_from view seen is after number adds = subst (λ (asked : Asked). Adds (read
 pub read_from : (view seen : Asked) → view ≡ seen → (after : List (ℕ × Outcome)) → after ≡ read_by view → (n : ℕ) (outcome : Outcome) → read_for after n ≡ Some outcome → read_for (read_by seen) n ≡ Some outcome
 read_from view seen is after same n outcome e = ap (λ asked. read_for (read_by asked) n) (sym is) ∙ ap (λ r. read_for r n) (sym same) ∙ e
 
-pub outcome_from : (view seen : Asked) → view ≡ seen → (path name : List ℕ) (number n : ℕ) (read : List (ℕ × Outcome)) → number ≡ n → HasOutcome view.file path name number read → HasOutcome seen.file path name n read
-outcome_from view seen is path name number n read same has = subst (λ (asked : Asked). HasOutcome asked.file path name n read) is (subst (λ (n : ℕ). HasOutcome view.file path name n read) same has)
+pub outcome_from : (view seen : Asked) → view ≡ seen → (path name : List ℕ) (number n : ℕ) (read : List (ℕ × Outcome)) → number ≡ n → HasRead view.file path name number read → HasRead seen.file path name n read
+outcome_from view seen is path name number n read same has = subst (λ (asked : Asked). HasRead asked.file path name n read) is (subst (λ (n : ℕ). HasRead view.file path name n read) same has)
 
-pub outcome_seen : (view seen : Asked) → view ≡ seen → (path name : List ℕ) (number n : ℕ) → number ≡ n → HasOutcome view.file path name number (read_by view) → HasOutcome seen.file path name n (read_by seen)
-outcome_seen view seen is path name number n same has = subst (λ (asked : Asked). HasOutcome asked.file path name n (read_by asked)) is (subst (λ (n : ℕ). HasOutcome view.file path name n (read_by view)) same has)
+pub outcome_seen : (view seen : Asked) → view ≡ seen → (path name : List ℕ) (number n : ℕ) → number ≡ n → HasRead view.file path name number (read_by view) → HasRead seen.file path name n (read_by seen)
+outcome_seen view seen is path name number n same has = subst (λ (asked : Asked). HasRead asked.file path name n (read_by asked)) is (subst (λ (n : ℕ). HasRead view.file path name n (read_by view)) same has)
 
 pub on_ok : {T E : Type 0} {P : Type 0} (r : Result T E) → false ≡ is_err r → OnOk r P → P
 on_ok (Ok x) e p = p
