@@ -15,7 +15,7 @@ use Rattle.wire_bytes.proofs.Spellings.{IsBytes}
 use Rattle.wire_bytes.proofs.Texts.{text_takes, text_again}
 use Rattle.file_parts.specs.declared.parts.FileForm.{FileForm}
 use Rattle.file_parts.specs.declared.parts.FileForm.TheVariants.{Full, Shallow, Bundle}
-use Rattle.file_parts.specs.Order.{RiseFrom, Rise}
+use Rattle.wire_bytes.specs.Order.{RiseFrom, Rise}
 use Rattle.file_parts.specs.Paths.{ArePaths, ArePathsIn, meant, IsPathFor, IsPathAt, is_among, path_for, path_in}
 
 -- ---- the paths of an index rise

@@ -1,3 +1,2 @@
-pub mod Order
 pub mod Paths
 pub mod FileParts

@@ -7,7 +7,7 @@ use Rattle.wire_bytes.specs.Text.{Text, text_in}
 use Rattle.file_parts.specs.declared.spans.TextSpan.{TextSpan}
 use Rattle.file_parts.specs.declared.parts.FileForm.{FileForm}
 use Rattle.file_parts.specs.declared.parts.FileForm.TheVariants.{Full, Shallow, Bundle}
-use Rattle.file_parts.specs.Order.{RiseFrom, Rise}
+use Rattle.wire_bytes.specs.Order.{RiseFrom, Rise}
 
 -- the text that stands there in the string section
 abbrev pub text_of : List ℕ → TextSpan → List ℕ

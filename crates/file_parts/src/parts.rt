@@ -4,7 +4,7 @@ ghost use Rattle.std.specs.Prelude.{◌≡◌, ◌+◌, ◌≤◌, ◌&&◌, ◌
 ghost use Rattle.std.specs.Cmp.Lexicographic.{pointwise};
 ghost use Rattle.std.specs.Option.{option_copied};
 ghost use Rattle.std.specs.List.{AllByRecursion};
-ghost use Rattle.file_parts.specs.Order.{Rise};
+ghost use Rattle.wire_bytes.specs.Order.{Rise};
 ghost use Rattle.file_parts.specs.Paths.{IsInside, texts_of, IsPathAt, is_among, path_for, path_in};
 ghost use Rattle.file_parts.specs.FileParts.{strings_of, body_of, paths_of, IsOfFile};
 

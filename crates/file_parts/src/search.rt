@@ -1,8 +1,10 @@
 //! A search by halves among records that are sorted by a text.
 
 ghost use Rattle.std.specs.Prelude.{◌≡◌, ◌<◌, ◌^◌, ℕ, List, length, map, Some, IfSome, IfNone, slice_get};
+ghost use Rattle.std.specs.Ordering.{nat_cmp};
 ghost use Rattle.std.specs.List.{AllByRecursion};
-ghost use Rattle.file_parts.specs.Order.{Rise};
+ghost use Rattle.std.specs.Cmp.Lexicographic.{slice_cmp};
+ghost use Rattle.wire_bytes.specs.Order.{Rise};
 ghost use Rattle.file_parts.specs.Paths.{IsInside, text_of};
 
 use crate::spans::{TextSpan, text_of};
@@ -36,16 +38,11 @@ pub fn find_titled<T: Titled>(strings: &[u8], records: &[T], wanted: &[u8]) -> O
     ensures found { IfSome result (λ i. slice_get (map (λ r. text_of strings.now (T.title r)) records.now) i ≡ Some wanted.now) }
     ensures none { IfNone result ((i : ℕ) → slice_get (map (λ r. text_of strings.now (T.title r)) records.now) i ≡ Some wanted.now → ⊥) }
 {
-    let mut low = 0;
-    let mut high = records.len();
-    while low < high {
-        let middle = low + (high - low) / 2;
-        let here = text_of(strings, records[middle].title());
-        match here.cmp(wanted) {
-            Ordering::Less => low = middle + 1,
-            Ordering::Equal => return Some(middle),
-            Ordering::Greater => high = middle,
-        }
-    }
-    None
+    records
+        .binary_search_by(
+            |record: &T| -> Ordering
+                ensures { result ≡ slice_cmp nat_cmp (text_of strings.entry.now (T.title record.now)) wanted.entry.now }
+            { text_of(strings, record.title()).cmp(wanted) },
+        )
+        .ok()
 }

@@ -1,7 +1,9 @@
 //! Texts of a string section, by where they stand.
 
 ghost use Rattle.std.specs.Prelude.{◌≡◌};
-ghost use Rattle.file_parts.specs.Paths.{IsInside, text_of};
+ghost use Rattle.file_parts.specs.Paths.{text_of};
+
+use std::cmp::min;
 
 /// A text of a string section: where it starts there, and where it ends.
 #[derive(Clone, Copy, Debug)]
@@ -10,10 +12,11 @@ pub struct TextSpan {
     pub end: u32,
 }
 
-/// The text of a string section that stands there.
+/// The text of a string section that stands there, as far as the section goes.
 pub fn text_of(strings: &[u8], span: TextSpan) -> &[u8]
-    requires { IsInside strings.now span }
     ensures { result.now ≡ text_of strings.now span }
 {
-    &strings[span.start as usize..span.end as usize]
+    let end = min(span.end as usize, strings.len());
+    let start = min(span.start as usize, end);
+    &strings[start..end]
 }

@@ -11,7 +11,7 @@ use Rattle.wire_bytes.proofs.Texts.{text_takes, text_again}
 use Rattle.wire_bytes.proofs.Many.{Takes, many_takes, many_again}
 use Rattle.wire_bytes.proofs.Cursors.{uvarint_at_takes, uvarint_at_again, or_fault_ok}
 use Rattle.name_index.specs.FullFile.{Entry}
-use Rattle.file_parts.specs.Order.{rises, Rise}
+use Rattle.wire_bytes.specs.Order.{rises, Rise}
 use Rattle.name_index.specs.Envelope.{IsEntry}
 use Rattle.name_index.specs.FirstBreach.{text_offset_at, entry_at, entries_at}
 use Rattle.name_index.proofs.Orders.{Rising, linked_rise, rise_linked}

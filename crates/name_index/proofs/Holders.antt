@@ -9,7 +9,7 @@ use Rattle.std.proofs.lemmas.Option.{slice_get_within, get_or_from_slice_get}
 use Rattle.name_index.specs.declared.records.EntryRecord.{EntryRecord}
 use Rattle.name_index.specs.declared.records.PackageRecord.{PackageRecord}
 use Rattle.name_index.specs.FullFile.{Entry, Package, Listed, listed_in, listed}
-use Rattle.file_parts.specs.Order.{Rise}
+use Rattle.wire_bytes.specs.Order.{Rise}
 use Rattle.name_index.specs.Lookup.{heading_at, names_at, name_at, as_listed, IsListed}
 use Rattle.file_parts.specs.Paths.{text_of, IsInside}
 use Rattle.name_index.specs.Records.{entry_of, package_of, packages_of, paths_of, name_count, IsNumbered, IsHolder, IsPackageInside, IsSearchable}

@@ -4,7 +4,7 @@ use Rattle.std.specs.List.{AllByRecursion}
 use Rattle.file_parts.specs.declared.spans.TextSpan.{TextSpan}
 use Rattle.file_parts.specs.declared.parts.Parts.{Parts}
 use Rattle.file_parts.specs.declared.parts.FileForm.TheVariants.{Full}
-use Rattle.file_parts.specs.Order.{IsBelow, RiseFrom}
+use Rattle.wire_bytes.specs.Order.{IsBelow, RiseFrom}
 use Rattle.file_parts.specs.FileParts.{strings_of, paths_of, IsOfFile}
 use Rattle.file_parts.specs.Paths.{text_of, IsInside, ArePaths, meant}
 use Rattle.name_index.specs.declared.records.PackageRecord.{PackageRecord}

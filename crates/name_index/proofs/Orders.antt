@@ -6,7 +6,7 @@ use Rattle.std.specs.Ordering.{nat_cmp, is_lt}
 use Rattle.std.specs.declared.cmp.Ordering.{Ordering}
 use Rattle.std.specs.declared.cmp.Ordering.TheVariants.{Less, Equal, Greater}
 use Rattle.wire_bytes.specs.Reading.{Linked}
-use Rattle.file_parts.specs.Order.{IsBelow, RiseFrom, Rise, rises}
+use Rattle.wire_bytes.specs.Order.{IsBelow, RiseFrom, Rise, rises}
 
 less_from_test : (o : Ordering) → is_lt o ≡ true → o ≡ Less
 less_from_test Less e = refl

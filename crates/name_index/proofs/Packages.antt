@@ -13,7 +13,7 @@ use Rattle.wire_bytes.proofs.Spellings.{IsBytes}
 use Rattle.wire_bytes.proofs.Many.{Takes, many_takes, many_again}
 use Rattle.wire_bytes.proofs.Cursors.{uvarint_at_takes, uvarint_at_again}
 use Rattle.name_index.specs.FullFile.{Package}
-use Rattle.file_parts.specs.Order.{IsBelow, RiseFrom}
+use Rattle.wire_bytes.specs.Order.{IsBelow, RiseFrom}
 use Rattle.file_parts.specs.Paths.{ArePaths}
 use Rattle.name_index.specs.Envelope.{IsPackage}
 use Rattle.name_index.specs.FirstBreach.{text_offset_at, entries_at, path_rule, package_at, packages_at, index_at}

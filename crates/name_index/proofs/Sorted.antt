@@ -4,12 +4,12 @@ use Rattle.std.specs.List.{AllByRecursion}
 use Rattle.wire_bytes.specs.Reading.{InOrder}
 use Rattle.name_index.specs.declared.records.Layout.{Layout}
 use Rattle.name_index.specs.FullFile.{content, Package, FullFile, Listed, listed, named}
-use Rattle.file_parts.specs.Order.{RiseFrom, Rise}
+use Rattle.wire_bytes.specs.Order.{RiseFrom, Rise}
 use Rattle.file_parts.specs.Paths.{ArePaths}
 use Rattle.name_index.specs.Envelope.{IsPackage, Envelope}
 use Rattle.name_index.specs.Lookup.{as_listed, IsListed, OwnFirst, IsSorted}
 use Rattle.name_index.specs.Records.{section_of, file_of, IsOpen, IsSearchable}
-use Rattle.file_parts.proofs.Halves.{rise_once}
+use Rattle.wire_bytes.proofs.RiseLemmas.{rise_once}
 use Rattle.name_index.proofs.Listing.{in_map, before, Holder, holder}
 
 -- ---- from an envelope

@@ -4,7 +4,7 @@ use Rattle.wire_bytes.specs.Reading.{InOrder}
 use Rattle.wire_bytes.specs.Uvarint.{BeginsWith}
 use Rattle.wire_bytes.specs.Text.{Text}
 use Rattle.name_index.specs.FullFile.{content, Entry, Package, FullFile, named}
-use Rattle.file_parts.specs.Order.{Rise}
+use Rattle.wire_bytes.specs.Order.{Rise}
 use Rattle.file_parts.specs.Paths.{ArePaths}
 
 -- the offset of a text in the string section

@@ -9,7 +9,7 @@ use Rattle.wire_bytes.specs.Reading.{Spot, place, ◌>>=◌, demand, or_fault, b
 use Rattle.wire_bytes.specs.Uvarint.{uvarint_at}
 use Rattle.wire_bytes.specs.Text.{text_in}
 use Rattle.name_index.specs.FullFile.{Section, content, Entry, Package, FullFile, named}
-use Rattle.file_parts.specs.Order.{rises}
+use Rattle.wire_bytes.specs.Order.{rises}
 
 -- the offset of a text in the string section, and the text there
 unfoldable pub text_offset_at : List ℕ → Spot → Result ((ℕ × List ℕ) × Spot) ByteFault

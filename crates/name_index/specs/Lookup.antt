@@ -3,7 +3,7 @@ use Rattle.std.specs.Prelude.{◌≡◌, ◌≢◌, ℕ, List, [], ◌∷◌, le
 use Rattle.std.specs.Option.{option_and_then}
 use Rattle.std.specs.List.{AllByRecursion}
 use Rattle.name_index.specs.FullFile.{Package, Listed, listed}
-use Rattle.file_parts.specs.Order.{Rise}
+use Rattle.wire_bytes.specs.Order.{Rise}
 
 -- the path and the name of package k
 abbrev pub heading_at : List Package → ℕ → Option (List ℕ × List ℕ)

@@ -2,7 +2,7 @@
 use Rattle.std.proofs.Common.{◌≡◌, ℕ, ◌+◌, ◌-◌, List, [], ◌∷◌, map, take, drop, refl, sym, ap, ◌∙◌, subst, arith}
 use Rattle.std.specs.Prelude.{slice_range}
 use Rattle.file_parts.specs.declared.parts.Parts.{Parts}
-use Rattle.file_parts.specs.Order.{IsBelow, RiseFrom}
+use Rattle.wire_bytes.specs.Order.{IsBelow, RiseFrom}
 use Rattle.file_parts.specs.Paths.{ArePaths, ArePathsIn, meant}
 use Rattle.file_parts.specs.FileParts.{IsOfFile, paths_of, strings_of, body_of}
 use Rattle.name_index.specs.FullFile.{content, Package, FullFile}

@@ -1,4 +1,4 @@
 pub mod NodesExact
 pub mod Insertions
-pub mod Searches
+pub mod PackageLemmas
 pub mod Variables

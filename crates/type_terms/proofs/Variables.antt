@@ -1,5 +1,5 @@
 -- A package stands that declares one variable of a predeclared type and has no imports and no files.
-use Rattle.std.proofs.Common.{◌≡◌, ℕ, ◌<◌, Bool, true, false, cond, List, [], ◌∷◌, length, Some, None, sym, subst, arith, suc, zero}
+use Rattle.std.proofs.Common.{◌≡◌, ℕ, ◌<◌, Bool, true, false, cond, List, [], ◌∷◌, length, Some, None, sym, subst, arith}
 use Rattle.std.specs.Prelude.{nat_eq}
 use Rattle.std.specs.List.{All, Contains}
 use Rattle.std.specs.Cmp.Lexicographic.{pointwise}
@@ -16,7 +16,7 @@ use Rattle.type_terms.specs.Arenas.{AllBelow}
 use Rattle.type_terms.specs.Denotation.{tree}
 use Rattle.type_terms.specs.Declarations.{var_of, decl_nodes}
 use Rattle.type_terms.specs.Environments.{decl_of, IsProper, IsProperLevel, IsProperDecl}
-use Rattle.type_terms.specs.Packages.{IsRising, IsImports, IsSourceFile, Named, name_of, package_decl, HoldsParameters, DeclsStand, PackageStands}
+use Rattle.type_terms.specs.Packages.{IsImports, IsSourceFile, package_decl, HoldsParameters, DeclsStand, PackageStands}
 
 basic_level : (basic : Basic) (type part : Tree) → type ≡ predeclared basic → Within type part → IsProperLevel (level_of part)
 basic_level basic _ _ e (itself type) = subst (λ t. IsProperLevel (level_of t)) (sym e) tt
@@ -32,13 +32,9 @@ basic_var pos basic type e = record {
 
 no_imports : IsImports []
 no_imports = record {
-  rises = λ m n first second below here there. (cc);
+  rises = tt;
   safe = λ found. absurd (omega (arith, found.1));
 }
-
-rises_alone : (decl : Named) → IsRising name_of (decl ∷ [])
-rises_alone decl m zero first second below here there = absurd (omega arith)
-rises_alone decl m (suc n) first second below here there = (cc)
 
 only : (name : Text) (decl found : DeclNode) (asked : Text) → package_decl ((name, decl) ∷ []) asked ≡ Some found → found ≡ decl
 only name decl found asked = by (pointwise nat_eq asked name)
@@ -50,7 +46,7 @@ only name decl found asked = by (pointwise nat_eq asked name)
 one_stands : (nodes : List Node) (path : Text) (name : Text) (decl : DeclNode) → AllBelow (length nodes) (decl_nodes decl) → IsProperDecl (decl_of nodes decl) → ((asked : Text) → HoldsParameters path ((name, decl) ∷ []) asked (decl_of nodes decl))
     → DeclsStand nodes path ((name, decl) ∷ [])
 one_stands nodes path name decl below proper parameters = record {
-  rises = rises_alone (name, decl);
+  rises = tt;
   below = λ asked found is. subst (λ d. AllBelow (length nodes) (decl_nodes d)) (sym (only name decl found asked is)) below;
   proper = λ asked found is. subst (λ d. IsProperDecl (decl_of nodes d)) (sym (only name decl found asked is)) proper;
   parameters = λ asked found is. subst (λ d. HoldsParameters path ((name, decl) ∷ []) asked (decl_of nodes d)) (sym (only name decl found asked is)) (parameters asked);

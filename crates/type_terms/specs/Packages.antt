@@ -1,11 +1,10 @@
 -- What a package is: its parts, and its declarations by their names.
 use Rattle.std.specs.Prelude.{◌≡◌, ◌≢◌, ℕ, ◌<◌, ◌≤◌, ◌^◌, ◌⊎◌, Bool, List, [], ◌++◌, Option, Some, nat_eq, slice_get, option_map, length, map, cond, codes, decimal}
 use Rattle.std.specs.List.{All, Contains}
-use Rattle.std.specs.declared.cmp.Ordering.TheVariants.{Less}
-use Rattle.std.specs.Ordering.{nat_cmp}
-use Rattle.std.specs.Cmp.Lexicographic.{pointwise, slice_cmp}
+use Rattle.std.specs.Cmp.Lexicographic.{pointwise}
 use Rattle.std.specs.Map.{lookup}
 use Rattle.std.specs.List.Sorted.{IsStrictlyIncreasing}
+use Rattle.wire_bytes.specs.Order.{Rise}
 use Rattle.go_values.specs.declared.positions.Pos.{Pos}
 use Rattle.go_values.specs.declared.qualified.QName.{QName}
 use Rattle.go_values.specs.declared.source_files.FileInfo.{FileInfo}
@@ -20,7 +19,7 @@ use Rattle.type_terms.specs.Environments.{Entry, declared, decl_of, IsProperDecl
 
 -- the text of each is bytewise below those of all after it, so none stands twice
 abbrev pub IsRising : {X : Type 0} → (X → Text) → List X → Type 0
-IsRising {X} text xs = (m n : ℕ) (first second : X) → m < n → slice_get xs m ≡ Some first → slice_get xs n ≡ Some second → slice_cmp nat_cmp (text first) (text second) ≡ Less
+IsRising text xs = Rise (map text xs)
 
 -- sorted paths, each once, without that of unsafe
 pub record IsImports (paths : List Text) : Type 0 where

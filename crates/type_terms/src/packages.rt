@@ -1,7 +1,10 @@
 ghost use Rattle.std.specs.Prelude.{◌≡◌, option_map};
+ghost use Rattle.std.specs.Cmp.Lexicographic.{slice_cmp};
+ghost use Rattle.std.specs.Ordering.{nat_cmp};
 ghost use Rattle.type_terms.specs.Packages.{IsRising, name_of, package_decl};
 
 use crate::declarations::{DeclNode, Package};
+use go_values::Bytes;
 use std::cmp::Ordering;
 
 impl Package {
@@ -11,17 +14,14 @@ impl Package {
         requires sorted { IsRising name_of self.now.decls.items }
         ensures { option_map (λ decl. decl.now) result ≡ package_decl self.now.decls.items name.now }
     {
-        let mut low = 0;
-        let mut high = self.decls.len();
-        while low < high {
-            let middle = low + (high - low) / 2;
-            let (own, decl) = &self.decls[middle];
-            match own.as_slice().cmp(name) {
-                Ordering::Less => low = middle + 1,
-                Ordering::Equal => return Some(decl),
-                Ordering::Greater => high = middle,
-            }
-        }
-        None
+        let place = self
+            .decls
+            .binary_search_by(
+                |named: &(Bytes, DeclNode)| -> Ordering
+                    ensures { result ≡ slice_cmp nat_cmp (name_of named.now) name.entry.now }
+                { named.0.as_slice().cmp(name) },
+            )
+            .ok()?;
+        Some(&self.decls[place].1)
     }
 }

@@ -5,6 +5,7 @@ pub mod Texts
 pub mod Many
 pub mod Cursors
 pub mod PrefixCodes
+pub mod RiseLemmas
 pub mod Spelled
 pub mod Sections
 pub mod Wholes

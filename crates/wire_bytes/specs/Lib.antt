@@ -1,6 +1,7 @@
 pub mod Reading
 pub mod Uvarint
 pub mod FaultText
+pub mod Order
 pub mod Text
 pub mod Begins
 pub mod Varint

@@ -4,7 +4,7 @@ ghost use Rattle.std.specs.Prelude.{◌≡◌, ◌≤◌, length, Some, IfOk, On
 ghost use Rattle.std.specs.Option.{option_copied};
 ghost use Rattle.std.specs.List.{AllByRecursion};
 ghost use Rattle.wire_bytes.specs.Reading.{GivesBy};
-ghost use Rattle.file_parts.specs.Order.{rises};
+ghost use Rattle.wire_bytes.specs.Order.{rises};
 ghost use Rattle.name_index.specs.FirstBreach.{text_offset_at, entry_at, entries_at};
 ghost use Rattle.file_parts.specs.Paths.{text_of, IsInside};
 ghost use Rattle.name_index.specs.Records.{entry_of, fault_of};

@@ -1,29 +1,18 @@
-use Rattle.std.proofs.Common.{◌+◌, ◌-◌, ◌/◌, ◌<◌, length, map, sym, arith}
-use Rattle.std.proofs.lemmas.List.{length-map}
+use Rattle.std.proofs.lemmas.Fn.{always_returns_same}
 use Rattle.file_parts.specs.Paths.{text_of}
-use Rattle.file_parts.proofs.Halves.{looks_above, looks_below, found_here, map_at, middle_below}
+use Rattle.wire_bytes.proofs.RiseLemmas.{beside, found_there, none_there}
 use Rattle.file_parts.proofs.search.find_titled.Goals as goal
 
-pub loop-low-preserved-in-Less : goal.loop-low-preserved-in-Less
-loop-low-preserved-in-Less g c =
+pub returns-clause-found : goal.returns-clause-found
+returns-clause-found g c =
     let title = λ (r : g.row.T.Denot). text_of c.args.strings.now (g.T.Titled.title r) in
-    let below : c.loop-low.low + (c.loop-low.high - c.loop-low.low) / 2 < c.loop-low.high = middle_below c.loop-low.low c.loop-low.high c.loop-low-test.true in
-    let within : c.loop-low.low + (c.loop-low.high - c.loop-low.low) / 2 < length c.args.records.now = omega (arith, below, c.loop-low.invariant.bound, length-map c.args.records.now title) in
-    looks_above _ c.args.wanted.now c.loop-low.low c.loop-low.high _ c.text_of-here.result.now c.requires.rising c.loop-low.invariant
-    (rw (c.text_of-here.ensures, c.title.ensures) (map_at title c.args.records.now _ c.index-records-middle.result within c.index-records-middle.is)) (sym c.in-Less.ensures)
+    let facts = c.binary_search_by.ensures in
+    let by_title = facts.position (beside title c.args.records.now c.requires.rising c.args.wanted.now) (always_returns_same _ _ _ (λ a r f k. (k.met.1, λ j. (k.met.0.0 j, k.met.0.1 j)))) in
+    rw c.ok.ensures.value (found_there title c.args.records.now c.requires.rising c.args.wanted.now c.binary_search_by.result facts.bound by_title)
 
-pub returns-in-Equal-clause-found : goal.returns-in-Equal-clause-found
-returns-in-Equal-clause-found g c =
+pub returns-clause-none : goal.returns-clause-none
+returns-clause-none g c =
     let title = λ (r : g.row.T.Denot). text_of c.args.strings.now (g.T.Titled.title r) in
-    let below : c.loop-low.low + (c.loop-low.high - c.loop-low.low) / 2 < c.loop-low.high = middle_below c.loop-low.low c.loop-low.high c.loop-low-test.true in
-    let within : c.loop-low.low + (c.loop-low.high - c.loop-low.low) / 2 < length c.args.records.now = omega (arith, below, c.loop-low.invariant.bound, length-map c.args.records.now title) in
-    found_here (map title c.args.records.now) c.args.wanted.now (c.loop-low.low + (c.loop-low.high - c.loop-low.low) / 2) c.text_of-here.result.now
-    (rw (c.text_of-here.ensures, c.title.ensures) (map_at title c.args.records.now _ c.index-records-middle.result within c.index-records-middle.is)) (sym c.in-Equal.ensures)
-
-pub loop-low-preserved : goal.loop-low-preserved
-loop-low-preserved g c =
-    let title = λ (r : g.row.T.Denot). text_of c.args.strings.now (g.T.Titled.title r) in
-    let below : c.loop-low.low + (c.loop-low.high - c.loop-low.low) / 2 < c.loop-low.high = middle_below c.loop-low.low c.loop-low.high c.loop-low-test.true in
-    let within : c.loop-low.low + (c.loop-low.high - c.loop-low.low) / 2 < length c.args.records.now = omega (arith, below, c.loop-low.invariant.bound, length-map c.args.records.now title) in
-    looks_below _ c.args.wanted.now c.loop-low.low c.loop-low.high _ c.text_of-here.result.now c.requires.rising c.loop-low.invariant (omega (arith, below, c.loop-low.invariant.bound))
-    (rw (c.text_of-here.ensures, c.title.ensures) (map_at title c.args.records.now _ c.index-records-middle.result within c.index-records-middle.is)) (sym c.in-Greater.ensures)
+    let facts = c.binary_search_by.ensures in
+    let by_title = facts.position (beside title c.args.records.now c.requires.rising c.args.wanted.now) (always_returns_same _ _ _ (λ a r f k. (k.met.1, λ j. (k.met.0.0 j, k.met.0.1 j)))) in
+    rw c.ok.ensures.value (none_there title c.args.records.now c.requires.rising c.args.wanted.now c.binary_search_by.result facts.bound by_title)

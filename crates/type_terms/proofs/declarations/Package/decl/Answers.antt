@@ -1,42 +1,38 @@
-use Rattle.std.proofs.Common.{◌≡◌, ℕ, ◌<◌, ◌+◌, ◌-◌, ◌/◌, length, Some, Less, Equal, Greater, refl, sym, ap, ◌∙◌, arith}
-use Rattle.std.specs.Prelude.{slice_get}
-use Rattle.std.proofs.lemmas.Option.{slice_get_read}
-use Rattle.type_terms.proofs.Searches.{order, less_more, greater_more, search_none, search_found}
+use Rattle.std.proofs.Common.{◌≡◌, ℕ, ◌<◌, Some, ap, sym, refl, ◌∙◌, arith, subst, map, Option, length}
+use Rattle.std.specs.List.Sorted.{IsSearchInRange, IsBinarySearchResult}
+use Rattle.std.specs.Prelude.{IfSome, IfNone, slice_get, option_map}
+use Rattle.std.proofs.lemmas.Fn.{always_returns_same}
+use Rattle.std.proofs.lemmas.Option.{slice_get_read, slice_get_within}
+use Rattle.std.proofs.lemmas.List.{length-map}
+use Rattle.wire_bytes.proofs.RiseLemmas.{rise_once, beside, found_there, none_there}
+use Rattle.type_terms.specs.Packages.{name_of}
+use Rattle.type_terms.proofs.PackageLemmas.{none_named, one_named}
 use Rattle.type_terms.proofs.declarations.Package.decl.Goals as goal
 
-pub loop-low-preserved-in-Less : goal.loop-low-preserved-in-Less
-loop-low-preserved-in-Less c =
-    let middle : ℕ = c.loop-low.low + (c.loop-low.high - c.loop-low.low) / 2 in
-    let below : middle < length c.args.self.now.decls.items = omega arith in
-    let here : slice_get c.args.self.now.decls.items middle ≡ Some c.index.result.now = slice_get_read _ _ middle _ refl below c.index.ensures in
-    let less : order c.index.result.now.0 c.args.name.now ≡ Less = ap (λ own. order own c.args.name.now) (sym c.as_slice.ensures) ∙ sym c.cmp.ensures ∙ c.in-Less.is in
-    record {
-      within = omega arith;
-      inside = c.loop-low.invariant.inside;
-      less = less_more _ c.requires.sorted c.args.name.now middle _ here less;
-      greater = c.loop-low.invariant.greater;
-    }
-
-pub returns-in-Equal : goal.returns-in-Equal
-returns-in-Equal c =
-    let middle : ℕ = c.loop-low.low + (c.loop-low.high - c.loop-low.low) / 2 in
-    let below : middle < length c.args.self.now.decls.items = omega arith in
-    let here : slice_get c.args.self.now.decls.items middle ≡ Some c.index.result.now = slice_get_read _ _ middle _ refl below c.index.ensures in
-    let equal : order c.index.result.now.0 c.args.name.now ≡ Equal = ap (λ own. order own c.args.name.now) (sym c.as_slice.ensures) ∙ sym c.cmp.ensures ∙ c.in-Equal.is in
-    sym (search_found _ c.requires.sorted c.args.name.now middle _ here equal)
-
-pub loop-low-preserved : goal.loop-low-preserved
-loop-low-preserved c =
-    let middle : ℕ = c.loop-low.low + (c.loop-low.high - c.loop-low.low) / 2 in
-    let below : middle < length c.args.self.now.decls.items = omega arith in
-    let here : slice_get c.args.self.now.decls.items middle ≡ Some c.index.result.now = slice_get_read _ _ middle _ refl below c.index.ensures in
-    let greater : order c.index.result.now.0 c.args.name.now ≡ Greater = ap (λ own. order own c.args.name.now) (sym c.as_slice.ensures) ∙ sym c.cmp.ensures ∙ c.in-Greater.is in
-    record {
-      within = omega arith;
-      inside = omega arith;
-      less = c.loop-low.invariant.less;
-      greater = greater_more _ c.requires.sorted c.args.name.now middle _ here greater;
-    }
+pub returns-in_err-place : goal.returns-in_err-place
+returns-in_err-place c =
+    let decls = c.args.self.now.decls.items in
+    let name = c.args.name.now in
+    let searched = c.binary_search_by.result in
+    let order = beside name_of decls c.requires.sorted name in
+    let bound : IsSearchInRange searched (length decls) = rw (← c.deref.ensures.value) c.binary_search_by.ensures.bound in
+    let position : IsBinarySearchResult order decls searched =
+    rw (← c.deref.ensures.value) (c.binary_search_by.ensures.position order (always_returns_same _ _ _ (λ a r f k. (k.met.1, λ j. record { 0 = k.met.0 j })))) in
+    let none = none_there name_of decls c.requires.sorted name searched bound position in
+    ap (option_map (λ decl. decl.now)) c.from_residual.ensures
+    ∙ sym (none_named name decls (subst (λ (o : Option ℕ). IfNone o ((i : ℕ) → slice_get (map name_of decls) i ≡ Some name → ⊥)) (sym c.in_err-place.ensures.value) none))
 
 pub returns : goal.returns
-returns c = sym (search_none _ c.args.name.now _ _ c.loop-low-test.false c.loop-low.invariant.less c.loop-low.invariant.greater)
+returns c =
+    let decls = c.args.self.now.decls.items in
+    let name = c.args.name.now in
+    let place = c.in_ok-place.place in
+    let searched = c.binary_search_by.result in
+    let order = beside name_of decls c.requires.sorted name in
+    let bound : IsSearchInRange searched (length decls) = rw (← c.deref.ensures.value) c.binary_search_by.ensures.bound in
+    let position : IsBinarySearchResult order decls searched =
+    rw (← c.deref.ensures.value) (c.binary_search_by.ensures.position order (always_returns_same _ _ _ (λ a r f k. (k.met.1, λ j. record { 0 = k.met.0 j })))) in
+    let found = found_there name_of decls c.requires.sorted name searched bound position in
+    let has : slice_get (map name_of decls) place ≡ Some name = subst (λ (o : Option ℕ). IfSome o (λ i. slice_get (map name_of decls) i ≡ Some name)) (sym c.in_ok-place.ensures.value) found in
+    let within : place < length decls = omega (arith, length-map decls name_of, slice_get_within (map name_of decls) place name has) in
+    sym (one_named name decls place c.index.result.now (λ i j. rise_once (map name_of decls) i j name c.requires.sorted) (slice_get_read decls (length decls) place c.index.result.now refl within c.index.ensures) has)
