@@ -10,3 +10,4 @@ pub mod Keyword
 pub mod KeywordLaws
 pub mod EntryTag
 pub mod EntryTagLaws
+pub mod Exact

@@ -18,7 +18,8 @@ pub data Request : Type 0 where
 abbrev pub IsForm : List Word → Request → Type 0
 IsForm words (list source) = (words ≡ codes "list" ∷ source_word source ∷ []) × IsSource source
 IsForm words (show source names) =
-    (words ≡ codes "show" ∷ source_word source ∷ codes "--" ∷ map name_word names) × IsSource source × AllByRecursion IsName names
+    (words ≡ codes "show" ∷ source_word source ∷ codes "--" ∷ map name_word names) × IsSource source
+    × AllByRecursion IsName names
 
 -- a form begins with these words
 abbrev pub Begins : List Word → Type 0
@@ -31,8 +32,8 @@ pub record IsWrongWord (words : List Word) (k : ℕ) : Type 0 where
   pub there : k ≤ length words → ¬ Begins (take k words)
   pub lacking : length words < k → (k ≡ length words + 1) × ((request : Request) → ¬ IsForm words request)
 
--- The k-th word is the first wrong one of these words and of one more, with which no form goes on: the least k such that
--- no form begins with the first k words, and else the one after them all.
+-- The k-th word is the first wrong one of these words and of one more, with which no form goes on: the least k such
+-- that no form begins with the first k words, and else the one after them all.
 pub record IsFirstWrong (words : List Word) (k : ℕ) : Type 0 where
   pub before : (j : ℕ) → j < k → Begins (take j words)
   pub there : k ≤ length words → ¬ Begins (take k words)

@@ -1,17 +1,20 @@
 -- What an operation on constants answers: its exact result, or the first fault that applies.
-use Rattle.std.specs.Prelude.{Bool, true, false, not, ◌&&◌, List, [], ◌∷◌, Option, Some, None, Result, Ok, Err, if◌then◌else◌, is_none, unwrap_or}
+use Rattle.std.specs.Prelude.{Bool, true, false, not, ◌&&◌, List, [], ◌∷◌, Option, Some, None, Result, Ok, Err}
+use Rattle.std.specs.Prelude.{if◌then◌else◌, is_none, unwrap_or}
 use Rattle.code_tables.specs.declared.predeclared.Basic.{Basic}
 use Rattle.code_tables.specs.declared.predeclared.Basic.TheVariants.{UntypedInt}
 use Rattle.go_values.specs.declared.constants.Const.{Const}
 use Rattle.const_values.specs.declared.values.Value.{Value}
 use Rattle.const_values.specs.declared.operators.ConstFault.{ConstFault}
-use Rattle.const_values.specs.declared.operators.ConstFault.TheVariants.{Mismatch, DivideByZero, Wide, Overflow, NegativeShift, FloatConstant}
+use Rattle.const_values.specs.declared.operators.ConstFault.TheVariants.{Mismatch, DivideByZero, Wide, Overflow}
+use Rattle.const_values.specs.declared.operators.ConstFault.TheVariants.{NegativeShift, FloatConstant}
 use Rattle.const_values.specs.declared.operators.BinaryOp.{BinaryOp}
 use Rattle.const_values.specs.declared.operators.BinaryOp.TheVariants.{Div, Rem}
 use Rattle.const_values.specs.declared.operators.UnaryOp.{UnaryOp}
 use Rattle.const_values.specs.Kinds.{common_kind, is_floating}
 use Rattle.const_values.specs.Values.{admits, in_range}
-use Rattle.const_values.specs.Exact.{has, result_of, result_kind, has_unary, unary_result, both_whole, is_zero, is_below_zero, shifted}
+use Rattle.const_values.specs.Exact.{has, result_of, result_kind, has_unary, unary_result, both_whole, is_zero}
+use Rattle.const_values.specs.Exact.{is_below_zero, shifted}
 
 -- an operation as it stands before its faults are looked at
 pub record Attempt : Type 0 where

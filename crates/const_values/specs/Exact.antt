@@ -1,5 +1,6 @@
 -- The exact results of the operators, on whole numbers without bounds.
-use Rattle.std.specs.Prelude.{ℕ, ℤ, pos, negsuc, ◌+ℤ◌, ◌-ℤ◌, ◌*ℤ◌, neg_ℤ, int_div, int_rem, int_lt, int_le, ◌-◌, ◌/◌, ◌^◌, Bool, true, false, not, ◌&&◌, ◌||◌, List, ◌++◌, nat_eq, if◌then◌else◌}
+use Rattle.std.specs.Prelude.{ℕ, ℤ, pos, negsuc, ◌+ℤ◌, ◌-ℤ◌, ◌*ℤ◌, neg_ℤ, int_div, int_rem, int_lt, int_le, ◌-◌, ◌/◌}
+use Rattle.std.specs.Prelude.{◌^◌, Bool, true, false, not, ◌&&◌, ◌||◌, List, ◌++◌, nat_eq, if◌then◌else◌}
 use Rattle.std.specs.Bool.{beq}
 use Rattle.std.specs.Ordering.{int_eq, nat_cmp, is_lt, is_gt}
 use Rattle.std.specs.Cmp.Lexicographic.{pointwise, slice_cmp}
@@ -8,7 +9,8 @@ use Rattle.code_tables.specs.declared.predeclared.Basic.TheVariants.{UntypedBool
 use Rattle.go_values.specs.declared.constants.Const.{Const}
 use Rattle.go_values.specs.declared.constants.Const.TheVariants.{Bool as Truth, Int, Str}
 use Rattle.const_values.specs.declared.operators.BinaryOp.{BinaryOp}
-use Rattle.const_values.specs.declared.operators.BinaryOp.TheVariants.{Or, And, Eq, Ne, Lt, Le, Gt, Ge, Add, Sub, BitOr, Xor, Mul, Div, Rem, BitAnd, AndNot}
+use Rattle.const_values.specs.declared.operators.BinaryOp.TheVariants.{Or, And, Eq, Ne, Lt, Le, Gt, Ge, Add, Sub, BitOr}
+use Rattle.const_values.specs.declared.operators.BinaryOp.TheVariants.{Xor, Mul, Div, Rem, BitAnd, AndNot}
 use Rattle.const_values.specs.declared.operators.UnaryOp.{UnaryOp}
 use Rattle.const_values.specs.declared.operators.UnaryOp.TheVariants.{Plus, Minus, Flip, Not}
 use Rattle.const_values.specs.Bitwise.{flip, both, either, one_of}

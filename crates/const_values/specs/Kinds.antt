@@ -1,8 +1,13 @@
 -- The basic kinds of constants: what their values are, and the ranges of those of whole numbers.
-use Rattle.std.specs.Prelude.{ℕ, ℤ, pos, negsuc, Bool, true, false, ◌&&◌, ◌==◌, if◌then◌else◌, ◌-◌, ◌^◌, Option, Some, None, int_le}
+use Rattle.std.specs.Prelude.{ℕ, ℤ, pos, negsuc, Bool, true, false, ◌&&◌, ◌==◌, if◌then◌else◌, ◌-◌, ◌^◌, Option, Some}
+use Rattle.std.specs.Prelude.{None, int_le}
 use Rattle.code_tables.specs.Basic.{basic_number}
 use Rattle.code_tables.specs.declared.predeclared.Basic.{Basic}
-use Rattle.code_tables.specs.declared.predeclared.Basic.TheVariants.{Bool as Boolean, String, Int, Int8, Int16, Int32, Int64, Uint, Uint8, Uint16, Uint32, Uint64, Uintptr, Byte, Rune, Float32, Float64, Complex64, Complex128, UntypedBool, UntypedInt, UntypedRune, UntypedString, UntypedFloat, UntypedComplex}
+use Rattle.code_tables.specs.declared.predeclared.Basic.TheVariants.{Bool as Boolean, String, Int, Int8, Int16, Int32}
+use Rattle.code_tables.specs.declared.predeclared.Basic.TheVariants.{Int64, Uint, Uint8, Uint16, Uint32, Uint64}
+use Rattle.code_tables.specs.declared.predeclared.Basic.TheVariants.{Uintptr, Byte, Rune, Float32, Float64, Complex64}
+use Rattle.code_tables.specs.declared.predeclared.Basic.TheVariants.{Complex128, UntypedBool, UntypedInt, UntypedRune}
+use Rattle.code_tables.specs.declared.predeclared.Basic.TheVariants.{UntypedString, UntypedFloat, UntypedComplex}
 
 abbrev pub is_truth : Basic → Bool
 is_truth Boolean = true

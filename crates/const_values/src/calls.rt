@@ -38,7 +38,8 @@ pub fn binary(alloc: Global, op: BinaryOp, left: &Value, right: &Value) -> Resul
     requires left_is { IsValue left.now }
     requires right_is { IsValue right.now }
     ensures value { IfOk result (λ made. binary_answer op left.now right.now ≡ Ok made) }
-    ensures fault { IfErr result (λ fault. fault ≢ ConstFault.OutOfMemory → binary_answer op left.now right.now ≡ Err fault) }
+    ensures fault { IfErr result (λ fault. fault ≢ ConstFault.OutOfMemory
+        → binary_answer op left.now right.now ≡ Err fault) }
     ensures memory { IsErrOf result ConstFault.OutOfMemory → IsText left.now.value }
     ensures kept { IfOk result IsValue }
 {

@@ -1,5 +1,6 @@
 //! What the definitions of the operators say together.
-ghost use Rattle.std.specs.Prelude.{◌≡◌, ◌≢◌, ◌<◌, ◌≤◌, ◌-◌, ◌+◌, ◌%◌, ◌^◌, ℕ, ℤ, pos, ◌+ℤ◌, ◌*ℤ◌, ◌≤ℤ◌, ◌<ℤ◌, int_div, int_rem, unsigned_abs, min, max};
+ghost use Rattle.std.specs.Prelude.{◌≡◌, ◌≢◌, ◌<◌, ◌≤◌, ◌-◌, ◌+◌, ◌%◌, ◌^◌, ℕ, ℤ, pos, ◌+ℤ◌, ◌*ℤ◌, ◌≤ℤ◌, ◌<ℤ◌, int_div};
+ghost use Rattle.std.specs.Prelude.{int_rem, unsigned_abs, min, max};
 ghost use Rattle.const_values.specs.Exact.{shift_right};
 ghost use Rattle.const_values.specs.Bitwise.{bit, flip, both, either, one_of};
 

@@ -102,7 +102,8 @@ pub fn result_of(
     requires has { IsTrue (exact.has op left.now right.now) }
     requires divisor { IsTrue (is_division op) → exact.is_zero right.now ≡ false }
     ensures value { IfOk result (λ value. value ≡ exact.result_of op left.now right.now) }
-    ensures wide { IsErrOf result ConstFault.Wide → in_range UntypedInt (exact.result_of op left.now right.now) ≡ false }
+    ensures wide { IsErrOf result ConstFault.Wide
+        → in_range UntypedInt (exact.result_of op left.now right.now) ≡ false }
     ensures memory { IsErrOf result ConstFault.OutOfMemory → IsText left.now }
     ensures faults { IfErr result (λ fault. (fault ≡ ConstFault.Wide) ⊎ (fault ≡ ConstFault.OutOfMemory)) }
 {

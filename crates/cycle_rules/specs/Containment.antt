@@ -1,7 +1,8 @@
-use Rattle.std.specs.Prelude.{◌≡◌, ℕ, ◌<◌, ◌≤◌, List, Bool, true, length, slice_get, slice_set, [], ◌∷◌, ◌++◌, map, sum_by, count_by, not, drop, Some}
+use Rattle.std.specs.Prelude.{◌≡◌, ℕ, ◌<◌, ◌≤◌, List, Bool, true, length, slice_get, slice_set, [], ◌∷◌, ◌++◌, map}
+use Rattle.std.specs.Prelude.{sum_by, count_by, not, drop, Some}
 use Rattle.cycle_rules.specs.declared.shapes.Form.{Form}
 use Rattle.cycle_rules.specs.declared.shapes.Form.TheVariants.{Held, Apply, Parts}
-use Rattle.cycle_rules.specs.declared.shapes.Shape.{Shape}
+use Rattle.cycle_rules.specs.declared.shapes.DeclShape.{DeclShape}
 use Rattle.cycle_rules.specs.declared.containment.Place.{Place}
 use Rattle.cycle_rules.specs.declared.containment.Containment.{Containment}
 use Rattle.cycle_rules.specs.Forms.{Content, parameter, shape, Holds, Fits, Owns}
@@ -30,48 +31,58 @@ pub record IsPlaced (places : List Place) (owner : ℕ) (form : Form) : Type 0 w
   pub formed : place.form.now ≡ form
 
 -- what the form contains, the declaration at this place of the list contains
-pub record Counts (shapes : List Shape) (place : ℕ) (form : Form) : Type 0 where
-  pub owner : Shape
+pub record Counts (shapes : List DeclShape) (place : ℕ) (form : Form) : Type 0 where
+  pub owner : DeclShape
   pub at : slice_get shapes place ≡ Some owner
   pub fits : Fits shapes owner.params form
   pub counts : (content : Content) → Holds shapes form content → Holds shapes owner.holds content
 
 -- what was found for a place
-pub record IsHandled (marks : List (List Bool)) (places : List Place) (applications : List (List Place)) (edges : List (List ℕ)) (place : Place) : Type 0 where
+pub record IsHandled (marks : List (List Bool)) (places : List Place) (applications : List (List Place))
+    (edges : List (List ℕ)) (place : Place) : Type 0 where
   pub held : (i : ℕ) → place.form.now ≡ Held i → IsMarked marks place.owner i
   pub applied : (t : ℕ) (arguments : List Form) → place.form.now ≡ Apply t arguments → Arrow edges place.owner t
   pub listed : (t : ℕ) (arguments : List Form) → place.form.now ≡ Apply t arguments → IsListed applications t place
-  pub parts : (all : List Form) (k : ℕ) (form : Form) → place.form.now ≡ Parts all → slice_get all k ≡ Some form → IsPlaced places place.owner form
+  pub parts : (all : List Form) (k : ℕ) (form : Form) → place.form.now ≡ Parts all → slice_get all k ≡ Some form
+      → IsPlaced places place.owner form
 
 -- what the search for what is contained keeps
-pub record IsContainment (shapes : List Shape) (marks : List (List Bool)) (places : List Place) (at : ℕ) (applications : List (List Place)) (edges : List (List ℕ)) : Type 0 where
+pub record IsContainment (shapes : List DeclShape) (marks : List (List Bool)) (places : List Place) (at : ℕ)
+    (applications : List (List Place)) (edges : List (List ℕ)) : Type 0 where
   pub marks_sized : length marks ≡ length shapes
   pub applications_sized : length applications ≡ length shapes
   pub edges_sized : length edges ≡ length shapes
-  pub rows_sized : (t : ℕ) (row : List Bool) (of : Shape) → slice_get marks t ≡ Some row → slice_get shapes t ≡ Some of → length row ≡ of.params
+  pub rows_sized : (t : ℕ) (row : List Bool) (of : DeclShape) → slice_get marks t ≡ Some row
+      → slice_get shapes t ≡ Some of → length row ≡ of.params
   -- what was found is so
   pub sound : (q : ℕ) (place : Place) → slice_get places q ≡ Some place → Counts shapes place.owner place.form.now
   pub marked : (t j : ℕ) → IsMarked marks t j → Owns shapes t (parameter j)
   pub joined : (s t : ℕ) → Arrow edges s t → Owns shapes s (shape t)
   pub listed : (t : ℕ) (place : Place) → IsListed applications t place → (q : ℕ) × (slice_get places q ≡ Some place)
-  pub applied : (t : ℕ) (place : Place) → IsListed applications t place → (arguments : List Form) × (place.form.now ≡ Apply t arguments)
+  pub applied : (t : ℕ) (place : Place) → IsListed applications t place → (arguments : List Form)
+      × (place.form.now ≡ Apply t arguments)
   -- what is so was found, as far as the places were handled
   pub within : at ≤ length places
-  pub roots : (s : ℕ) (of : Shape) → slice_get shapes s ≡ Some of → IsPlaced places s of.holds
-  pub handled : (q : ℕ) (place : Place) → q < at → slice_get places q ≡ Some place → IsHandled marks places applications edges place
-  pub passed : (t j : ℕ) (place : Place) (arguments : List Form) (form : Form) → IsListed applications t place → place.form.now ≡ Apply t arguments → IsMarked marks t j → slice_get arguments j ≡ Some form → IsPlaced places place.owner form
+  pub roots : (s : ℕ) (of : DeclShape) → slice_get shapes s ≡ Some of → IsPlaced places s of.holds
+  pub handled : (q : ℕ) (place : Place) → q < at → slice_get places q ≡ Some place
+      → IsHandled marks places applications edges place
+  pub passed : (t j : ℕ) (place : Place) (arguments : List Form) (form : Form) → IsListed applications t place
+      → place.form.now ≡ Apply t arguments → IsMarked marks t j → slice_get arguments j ≡ Some form
+      → IsPlaced places place.owner form
 
 -- a row for each declaration, with an entry for each of its parameters, none of which is set
-pub record IsUnmarked (shapes : List Shape) (rows : List (List Bool)) : Type 0 where
+pub record IsUnmarked (shapes : List DeclShape) (rows : List (List Bool)) : Type 0 where
   pub sized : length rows ≡ length shapes
-  pub rows_sized : (t : ℕ) (row : List Bool) (of : Shape) → slice_get rows t ≡ Some row → slice_get shapes t ≡ Some of → length row ≡ of.params
+  pub rows_sized : (t : ℕ) (row : List Bool) (of : DeclShape) → slice_get rows t ≡ Some row
+      → slice_get shapes t ≡ Some of → length row ≡ of.params
   pub unset : (t j : ℕ) → IsMarked rows t j → ⊥
 
 -- the place of each declaration's whole form
-pub record AreWhole (shapes : List Shape) (places : List Place) : Type 0 where
+pub record AreWhole (shapes : List DeclShape) (places : List Place) : Type 0 where
   pub sized : length places ≡ length shapes
   pub owned : (s : ℕ) (place : Place) → slice_get places s ≡ Some place → place.owner ≡ s
-  pub formed : (s : ℕ) (place : Place) (of : Shape) → slice_get places s ≡ Some place → slice_get shapes s ≡ Some of → place.form.now ≡ of.holds
+  pub formed : (s : ℕ) (place : Place) (of : DeclShape) → slice_get places s ≡ Some place
+      → slice_get shapes s ≡ Some of → place.form.now ≡ of.holds
 
 -- how many forms stand in those that weren't handled yet
 abbrev pub size_left : List Place → ℕ → ℕ
@@ -107,4 +118,5 @@ pub record OnlyPlaces (old new : Containment) : Type 0 where
   pub at : new.at ≡ old.at
   pub applications : new.applications ≡ old.applications
   pub edges : new.edges ≡ old.edges
-  pub places : (q : ℕ) (place : Place) → slice_get old.places.items q ≡ Some place → slice_get new.places.items q ≡ Some place
+  pub places : (q : ℕ) (place : Place) → slice_get old.places.items q ≡ Some place
+      → slice_get new.places.items q ≡ Some place

@@ -1,15 +1,16 @@
-use Rattle.std.specs.Prelude.{◌≡◌, ℕ, ◌<◌, List, [], length, map, slice_get, slice_index, Option, Some, IfSome, IfNone, MatchOption}
+use Rattle.std.specs.Prelude.{◌≡◌, ℕ, ◌<◌, List, [], length, map, slice_get, slice_index, Option, Some, IfSome, IfNone}
+use Rattle.std.specs.Prelude.{MatchOption}
 use Rattle.cycle_rules.specs.declared.cycles.CycleKind.{CycleKind}
 use Rattle.cycle_rules.specs.declared.cycles.CycleKind.TheVariants.{Contains, Embeds, OfAlias, Constraint, Value}
 use Rattle.cycle_rules.specs.declared.cycles.Ranks.{Ranks}
 use Rattle.cycle_rules.specs.declared.cycles.Ranked.{Ranked}
 use Rattle.cycle_rules.specs.declared.cycles.Cycle.{Cycle}
-use Rattle.cycle_rules.specs.declared.shapes.Shape.{Shape}
+use Rattle.cycle_rules.specs.declared.shapes.DeclShape.{DeclShape}
 use Rattle.cycle_rules.specs.Forms.{Fits, Owns, shape}
 use Rattle.cycle_rules.specs.Paths.{Arrow, IsGraph, LiesOnCycle}
 
 -- the declarations that a declaration lists for this kind; what it contains is no list
-abbrev pub targets_of : CycleKind → Shape → List ℕ
+abbrev pub targets_of : CycleKind → DeclShape → List ℕ
 targets_of Contains d = []
 targets_of Embeds d = d.embeds.items
 targets_of OfAlias d = d.aliases.items
@@ -17,7 +18,7 @@ targets_of Constraint d = d.constraints.items
 targets_of Value d = d.values.items
 
 -- an edge of this kind leads from the declaration at s to the one at t
-abbrev pub IsEdge : List Shape → CycleKind → ℕ → ℕ → Type 0
+abbrev pub IsEdge : List DeclShape → CycleKind → ℕ → ℕ → Type 0
 IsEdge shapes Contains s t = Owns shapes s (shape t)
 IsEdge shapes Embeds s t = Arrow (map (targets_of Embeds) shapes) s t
 IsEdge shapes OfAlias s t = Arrow (map (targets_of OfAlias) shapes) s t
@@ -25,7 +26,7 @@ IsEdge shapes Constraint s t = Arrow (map (targets_of Constraint) shapes) s t
 IsEdge shapes Value s t = Arrow (map (targets_of Value) shapes) s t
 
 -- the declaration lies on a cycle of this kind
-abbrev pub IsCyclic : List Shape → CycleKind → ℕ → Type 0
+abbrev pub IsCyclic : List DeclShape → CycleKind → ℕ → Type 0
 IsCyclic shapes kind s = LiesOnCycle (IsEdge shapes kind) s
 
 -- the kinds in their order
@@ -37,14 +38,15 @@ place_of Constraint = 3
 place_of Value = 4
 
 -- the first declaration that lies on a cycle, and the first kind of which it lies on one
-pub record IsFirstCycle (shapes : List Shape) (kind : CycleKind) (item : ℕ) : Type 0 where
+pub record IsFirstCycle (shapes : List DeclShape) (kind : CycleKind) (item : ℕ) : Type 0 where
   pub cyclic : IsCyclic shapes kind item
   pub least : (k : CycleKind) (s : ℕ) → s < item → IsCyclic shapes k s → ⊥
   pub earliest : (k : CycleKind) → place_of k < place_of kind → IsCyclic shapes k item → ⊥
 
--- The numbers in these declarations are places of the list and numbers of parameters, and each application has as many arguments as there are parameters.
-pub record AreShapes (shapes : List Shape) : Type 0 where
-  pub forms : (s : ℕ) (of : Shape) → slice_get shapes s ≡ Some of → Fits shapes of.params of.holds
+-- The numbers in these declarations are places of the list and numbers of parameters, and each application has as many
+-- arguments as there are parameters.
+pub record AreShapes (shapes : List DeclShape) : Type 0 where
+  pub forms : (s : ℕ) (of : DeclShape) → slice_get shapes s ≡ Some of → Fits shapes of.params of.holds
   pub lists : (kind : CycleKind) → IsGraph (map (targets_of kind) shapes)
 
 -- the rank of the declaration at this place
@@ -68,18 +70,21 @@ pub record IsRanked (Edge : ℕ → ℕ → Type 0) (count : ℕ) (ranked : Rank
   pub sized : length ranked.ranks.items ≡ count
   pub found : IfSome ranked.first (λ v. LiesOnCycle Edge v)
   pub least : IfSome ranked.first (λ v. (u : ℕ) → u < v → LiesOnCycle Edge u → ⊥)
-  pub falls : IfNone ranked.first ((s t : ℕ) → Edge s t → slice_index ranked.ranks.items t < slice_index ranked.ranks.items s)
+  pub falls : IfNone ranked.first ((s t : ℕ) → Edge s t
+      → slice_index ranked.ranks.items t < slice_index ranked.ranks.items s)
 
 -- this is the first that lies on a cycle of this kind, if one does
-abbrev pub IsFirstOf : List Shape → CycleKind → Option ℕ → Type 0
-IsFirstOf shapes kind item = MatchOption item ((s : ℕ) → IsCyclic shapes kind s → ⊥) (λ v. IsCyclic shapes kind v × ((u : ℕ) → u < v → IsCyclic shapes kind u → ⊥))
+abbrev pub IsFirstOf : List DeclShape → CycleKind → Option ℕ → Type 0
+IsFirstOf shapes kind item = MatchOption item ((s : ℕ) → IsCyclic shapes kind s → ⊥) (λ v. IsCyclic shapes kind v
+    × ((u : ℕ) → u < v → IsCyclic shapes kind u → ⊥))
 
 -- the first that lies on a cycle of one of the first so many kinds, if one does
-pub record IsFirstAmong (shapes : List Shape) (count : ℕ) (kind : CycleKind) (item : ℕ) : Type 0 where
+pub record IsFirstAmong (shapes : List DeclShape) (count : ℕ) (kind : CycleKind) (item : ℕ) : Type 0 where
   pub cyclic : IsCyclic shapes kind item
   pub among : place_of kind < count
   pub least : (k : CycleKind) (s : ℕ) → place_of k < count → s < item → IsCyclic shapes k s → ⊥
   pub earliest : (k : CycleKind) → place_of k < place_of kind → IsCyclic shapes k item → ⊥
 
-abbrev pub IsFound : List Shape → ℕ → Option Cycle → Type 0
-IsFound shapes count found = MatchOption found ((k : CycleKind) (s : ℕ) → place_of k < count → IsCyclic shapes k s → ⊥) (λ c. IsFirstAmong shapes count c.kind c.item)
+abbrev pub IsFound : List DeclShape → ℕ → Option Cycle → Type 0
+IsFound shapes count found = MatchOption found ((k : CycleKind) (s : ℕ) → place_of k < count → IsCyclic shapes k s
+    → ⊥) (λ c. IsFirstAmong shapes count c.kind c.item)

@@ -19,7 +19,8 @@ abbrev pub rank_in : Mark → ℕ
 rank_in (Done rank) = rank
 rank_in _ = 0
 
--- the node at this place of the stack belongs to the component that begins at root: the last one that begins at this place or before
+-- the node at this place of the stack belongs to the component that begins at root: the last one that begins at this
+-- place or before
 pub record Belongs (graph : List (List ℕ)) (stack : List ℕ) (bounds : List Bound) (place node : ℕ) : Type 0 where
   pub index : ℕ
   pub bound : Bound
@@ -33,11 +34,14 @@ pub record Belongs (graph : List (List ℕ)) (stack : List ℕ) (bounds : List B
 -- where an edge of an open node leads
 pub data Followed (marks : List Mark) (stack pending : List ℕ) (bound : Bound) (target : ℕ) : Type 0 where
   done : (rank : ℕ) → slice_get marks target ≡ Some (Done rank) → Followed marks stack pending bound target
-  within : (place : ℕ) → bound.stack ≤ place → slice_get stack place ≡ Some target → Followed marks stack pending bound target
-  waits : (place : ℕ) → bound.pending ≤ place → slice_get pending place ≡ Some target → Followed marks stack pending bound target
+  within : (place : ℕ) → bound.stack ≤ place → slice_get stack place ≡ Some target
+      → Followed marks stack pending bound target
+  waits : (place : ℕ) → bound.pending ≤ place → slice_get pending place ≡ Some target
+      → Followed marks stack pending bound target
 
 -- what a search for components keeps
-pub record IsSearch (graph : List (List ℕ)) (marks : List Mark) (stack pending : List ℕ) (bounds : List Bound) (rank : ℕ) : Type 0 where
+pub record IsSearch (graph : List (List ℕ)) (marks : List Mark) (stack pending : List ℕ) (bounds : List Bound)
+    (rank : ℕ) : Type 0 where
   pub sized : length marks ≡ length graph
   -- the open nodes are those on the stack
   pub placed : (i v : ℕ) → slice_get stack i ≡ Some v → slice_get marks v ≡ Some (Open i)
@@ -46,17 +50,23 @@ pub record IsSearch (graph : List (List ℕ)) (marks : List Mark) (stack pending
   pub fresh : (v : ℕ) → slice_get marks v ≡ Some New → (x : ℕ) × (slice_get pending x ≡ Some v)
   pub inside : (x v : ℕ) → slice_get pending x ≡ Some v → v < length graph
   -- the components lie on the stack in order, each with a node
-  pub rising : (k l : ℕ) (a b : Bound) → slice_get bounds k ≡ Some a → slice_get bounds l ≡ Some b → k < l → (a.stack < b.stack) × (a.pending ≤ b.pending)
+  pub rising : (k l : ℕ) (a b : Bound) → slice_get bounds k ≡ Some a → slice_get bounds l ≡ Some b → k < l
+      → (a.stack < b.stack) × (a.pending ≤ b.pending)
   pub begun : (k : ℕ) (b : Bound) → slice_get bounds k ≡ Some b → b.stack < length stack
   -- each open node leads back to its component's first, which leads to all that came after it
   pub belongs : (i v : ℕ) → slice_get stack i ≡ Some v → Belongs graph stack bounds i v
-  pub leads : (k root j v : ℕ) (b : Bound) → slice_get bounds k ≡ Some b → slice_get stack b.stack ≡ Some root → b.stack ≤ j → slice_get stack j ≡ Some v → Reaches (Arrow graph) root v
-  pub awaits : (k root x v : ℕ) (b : Bound) → slice_get bounds k ≡ Some b → slice_get stack b.stack ≡ Some root → b.pending ≤ x → slice_get pending x ≡ Some v → Reaches (Arrow graph) root v
+  pub leads : (k root j v : ℕ) (b : Bound) → slice_get bounds k ≡ Some b → slice_get stack b.stack ≡ Some root
+      → b.stack ≤ j → slice_get stack j ≡ Some v → Reaches (Arrow graph) root v
+  pub awaits : (k root x v : ℕ) (b : Bound) → slice_get bounds k ≡ Some b → slice_get stack b.stack ≡ Some root
+      → b.pending ≤ x → slice_get pending x ≡ Some v → Reaches (Arrow graph) root v
   -- no edge of an open node leads further back than its component
-  pub followed : (k i v t : ℕ) (b : Bound) → slice_get bounds k ≡ Some b → b.stack ≤ i → slice_get stack i ≡ Some v → Arrow graph v t → Followed marks stack pending b t
+  pub followed : (k i v t : ℕ) (b : Bound) → slice_get bounds k ≡ Some b → b.stack ≤ i → slice_get stack i ≡ Some v
+      → Arrow graph v t → Followed marks stack pending b t
   -- what is done is ranked
-  pub falls : (v t r : ℕ) → slice_get marks v ≡ Some (Done r) → Arrow graph v t → (s : ℕ) × (slice_get marks t ≡ Some (Done s)) × (s ≤ r)
-  pub alike : (v w r : ℕ) → slice_get marks v ≡ Some (Done r) → slice_get marks w ≡ Some (Done r) → Reaches (Arrow graph) v w
+  pub falls : (v t r : ℕ) → slice_get marks v ≡ Some (Done r) → Arrow graph v t → (s : ℕ)
+      × (slice_get marks t ≡ Some (Done s)) × (s ≤ r)
+  pub alike : (v w r : ℕ) → slice_get marks v ≡ Some (Done r) → slice_get marks w ≡ Some (Done r)
+      → Reaches (Arrow graph) v w
   pub ranked : (v r : ℕ) → slice_get marks v ≡ Some (Done r) → r < rank
   pub counted : rank + length bounds + count_by is_new marks ≤ length graph
 
@@ -75,5 +85,6 @@ HasRoom bounds pending = (k : ℕ) (b : Bound) → slice_get bounds k ≡ Some b
 -- Edges lead to the same rank or a smaller one, and nodes of one rank lead to each other.
 pub record RanksComponents (graph : List (List ℕ)) (ranks : List ℕ) : Type 0 where
   pub sized : length ranks ≡ length graph
-  pub falls : (v t r : ℕ) → slice_get ranks v ≡ Some r → Arrow graph v t → (s : ℕ) × (slice_get ranks t ≡ Some s) × (s ≤ r)
+  pub falls : (v t r : ℕ) → slice_get ranks v ≡ Some r → Arrow graph v t → (s : ℕ) × (slice_get ranks t ≡ Some s)
+      × (s ≤ r)
   pub alike : (v w r : ℕ) → slice_get ranks v ≡ Some r → slice_get ranks w ≡ Some r → Reaches (Arrow graph) v w

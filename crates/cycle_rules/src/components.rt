@@ -1,8 +1,11 @@
 //! The strongly connected components of a graph, numbered so that no edge leads to a greater number.
 
-ghost use Rattle.std.specs.Prelude.{◌≡◌, ℕ, ◌+◌, ◌-◌, ◌*◌, ◌<◌, ◌≤◌, ◌^◌, ◌↔◌, ◌⊎◌, List, [], ◌∷◌, ◌++◌, length, take, map, IsTrue, IfOk, IfSome, IfNone, OnOk, OnSome, IsFalse, slice_get, slice_set, slice_index, MatchOption, count_by};
+ghost use Rattle.std.specs.Prelude.{◌≡◌, ℕ, ◌+◌, ◌-◌, ◌*◌, ◌<◌, ◌≤◌, ◌^◌, ◌↔◌, ◌⊎◌, List, [], ◌∷◌, ◌++◌, length, take};
+ghost use Rattle.std.specs.Prelude.{map, IsTrue, IfOk, IfSome, IfNone, OnOk, OnSome, IsFalse, slice_get, slice_set};
+ghost use Rattle.std.specs.Prelude.{slice_index, MatchOption, count_by};
 ghost use Rattle.cycle_rules.specs.Paths.{LiesOnCycle, Arrow, IsGraph};
-ghost use Rattle.cycle_rules.specs.Search.{rank_in, Searches, edges_of, Reaches, IsSearch, HasRoom, RanksComponents, is_new};
+ghost use Rattle.cycle_rules.specs.Search.{rank_in, Searches, edges_of, Reaches, IsSearch, HasRoom, RanksComponents};
+ghost use Rattle.cycle_rules.specs.Search.{is_new};
 
 use std::alloc::{AllocError, Global};
 
@@ -85,8 +88,10 @@ impl<'a> Search<'a> {
     /// Makes one component of those that begin at this place of the stack or later, and the one before.
     fn merge(&mut self, place: usize)
         ensures kept { self.new.bounds.items ≡ take (length self.new.bounds.items) self.old.bounds.items }
-        ensures merged { (j : ℕ) (b : Bound) → length self.new.bounds.items ≤ j → slice_get self.old.bounds.items j ≡ Some b → place < b.stack }
-        ensures last { (k : ℕ) (b : Bound) → k + 1 ≡ length self.new.bounds.items → slice_get self.new.bounds.items k ≡ Some b → b.stack ≤ place }
+        ensures merged { (j : ℕ) (b : Bound) → length self.new.bounds.items ≤ j
+            → slice_get self.old.bounds.items j ≡ Some b → place < b.stack }
+        ensures last { (k : ℕ) (b : Bound) → k + 1 ≡ length self.new.bounds.items
+            → slice_get self.new.bounds.items k ≡ Some b → b.stack ≤ place }
         ensures marks { self.new.marks ≡ self.old.marks }
         ensures stack { self.new.stack ≡ self.old.stack }
         ensures pending { self.new.pending ≡ self.old.pending }
@@ -104,10 +109,13 @@ impl<'a> Search<'a> {
     /// Makes the nodes from this place of the stack on one component, of the next rank.
     fn close(&mut self, place: usize)
         requires within { place ≤ length self.old.stack.items }
-        requires opened { (i v : ℕ) → slice_get self.old.stack.items i ≡ Some v → slice_get self.old.marks.items v ≡ Some (Mark.Open i) }
+        requires opened { (i v : ℕ) → slice_get self.old.stack.items i ≡ Some v
+            → slice_get self.old.marks.items v ≡ Some (Mark.Open i) }
         requires fits { self.old.rank + 1 < 2 ^ 64 }
-        ensures closed { (i v : ℕ) → place ≤ i → slice_get self.old.stack.items i ≡ Some v → slice_get self.new.marks.items v ≡ Some (Mark.Done self.old.rank) }
-        ensures others { (v : ℕ) → ((i : ℕ) → place ≤ i → slice_get self.old.stack.items i ≡ Some v → ⊥) → slice_get self.new.marks.items v ≡ slice_get self.old.marks.items v }
+        ensures closed { (i v : ℕ) → place ≤ i → slice_get self.old.stack.items i ≡ Some v
+            → slice_get self.new.marks.items v ≡ Some (Mark.Done self.old.rank) }
+        ensures others { (v : ℕ) → ((i : ℕ) → place ≤ i → slice_get self.old.stack.items i ≡ Some v → ⊥)
+            → slice_get self.new.marks.items v ≡ slice_get self.old.marks.items v }
         ensures sized { length self.new.marks.items ≡ length self.old.marks.items }
         ensures fresh { count_by is_new self.new.marks.items ≡ count_by is_new self.old.marks.items }
         ensures stack { self.new.stack.items ≡ take place self.old.stack.items }
@@ -135,7 +143,8 @@ impl<'a> Search<'a> {
         ensures fresh { count_by is_new self.new.marks.items ≡ count_by is_new self.old.marks.items }
         ensures closed { IsTrue result → length self.new.bounds.items + 1 ≡ length self.old.bounds.items }
         ensures same { IsFalse result → self.new.bounds ≡ self.old.bounds }
-        ensures room { IsFalse result → (k : ℕ) (b : Bound) → slice_get self.old.bounds.items k ≡ Some b → b.pending < length self.old.pending.items }
+        ensures room { IsFalse result → (k : ℕ) (b : Bound) → slice_get self.old.bounds.items k ≡ Some b
+            → b.pending < length self.old.pending.items }
         ensures ended { IsFalse result → length self.old.pending.items ≡ 0 → length self.old.bounds.items ≡ 0 }
     {
         let Some(bound) = self.bounds.last().copied() else {
@@ -152,7 +161,8 @@ impl<'a> Search<'a> {
     /// Follows the last pending edge, and answers the node that it leads to where that is new.
     fn follow(&mut self) -> Option<u32>
         requires search { Searches self.old self.old.pending.items }
-        requires room { (k : ℕ) (b : Bound) → slice_get self.old.bounds.items k ≡ Some b → b.pending < length self.old.pending.items }
+        requires room { (k : ℕ) (b : Bound) → slice_get self.old.bounds.items k ≡ Some b
+            → b.pending < length self.old.pending.items }
         ensures graph { self.new.graph ≡ self.old.graph }
         ensures fresh { self.new.marks ≡ self.old.marks }
         ensures bounds { length self.new.bounds.items ≤ length self.old.bounds.items }
@@ -225,8 +235,8 @@ impl Mark {
     }
 }
 
-/// Numbers the strongly connected components of a graph, so that no edge leads to a greater number, and answers each node's. The graph has
-/// for each node those that its edges lead to. Takes time in proportion to the nodes and edges.
+/// Numbers the strongly connected components of a graph, so that no edge leads to a greater number, and answers each
+/// node's. The graph has for each node those that its edges lead to. Takes time in proportion to the nodes and edges.
 pub fn component_ranks(alloc: Global, graph: &[&[u32]]) -> Result<Vec<u64>, AllocError>
     requires size { length graph.now < 2 ^ 32 }
     requires graph { IsGraph (map (λ t. t.now) graph.now) }
@@ -242,7 +252,8 @@ pub fn component_ranks(alloc: Global, graph: &[&[u32]]) -> Result<Vec<u64>, Allo
 /// Whether one of these nodes has this rank.
 fn has_rank(ranks: &[u64], nodes: &[u32], rank: u64) -> bool
     requires inside { (k v : ℕ) → slice_get nodes.now k ≡ Some v → v < length ranks.now }
-    ensures some { IsTrue result → (k : ℕ) × (v : ℕ) × (slice_get nodes.now k ≡ Some v) × (slice_get ranks.now v ≡ Some rank) }
+    ensures some { IsTrue result → (k : ℕ) × (v : ℕ) × (slice_get nodes.now k ≡ Some v)
+        × (slice_get ranks.now v ≡ Some rank) }
     ensures none { IsFalse result → (k v : ℕ) → slice_get nodes.now k ≡ Some v → slice_get ranks.now v ≡ Some rank → ⊥ }
 {
     for node in nodes {
@@ -260,7 +271,8 @@ pub fn first_on_cycle(graph: &[&[u32]], ranks: &[u64]) -> Option<u32>
     requires ranks { RanksComponents (map (λ t. t.now) graph.now) ranks.now }
     ensures found { IfSome result (λ v. LiesOnCycle (Arrow (map (λ t. t.now) graph.now)) v) }
     ensures first { IfSome result (λ v. (u : ℕ) → u < v → LiesOnCycle (Arrow (map (λ t. t.now) graph.now)) u → ⊥) }
-    ensures none { IfNone result ((u v : ℕ) → Arrow (map (λ t. t.now) graph.now) u v → slice_index ranks.now v < slice_index ranks.now u) }
+    ensures none { IfNone result ((u v : ℕ) → Arrow (map (λ t. t.now) graph.now) u v
+        → slice_index ranks.now v < slice_index ranks.now u) }
 {
     for (node, targets) in graph.iter().enumerate() {
         if has_rank(ranks, targets, ranks[node]) {

@@ -2,11 +2,12 @@
 
 ghost use Rattle.std.specs.Prelude.{◌≡◌, ◌≢◌, ℕ, ◌+◌, ◌<◌, ◌≤◌, ◌^◌, List, length, IfOk, OnOk, Err, slice_get, map};
 ghost use Rattle.cycle_rules.specs.Paths.{Arrow, IsGraph};
-ghost use Rattle.cycle_rules.specs.Cycles.{targets_of, IsEdge, IsCyclic, IsFirstCycle, AreShapes, rank_in, HasRanks, IsRanked, IsFirstOf, IsFound, place_of};
+ghost use Rattle.cycle_rules.specs.Cycles.{targets_of, IsEdge, IsCyclic, IsFirstCycle, AreShapes, rank_in, HasRanks};
+ghost use Rattle.cycle_rules.specs.Cycles.{IsRanked, IsFirstOf, IsFound, place_of};
 
 use crate::components::{component_ranks, first_on_cycle};
 use crate::containment::contained_in;
-use crate::shapes::Shape;
+use crate::shapes::DeclShape;
 use std::alloc::{AllocError, Global};
 
 /// The kinds of cycle that Go forbids.
@@ -87,7 +88,7 @@ fn rank_graph(alloc: Global, graph: &[&[u32]]) -> Result<Ranked, AllocError>
 }
 
 /// The declarations that a declaration lists for this kind.
-fn targets(shape: &Shape, kind: CycleKind) -> &[u32]
+fn targets(shape: &DeclShape, kind: CycleKind) -> &[u32]
     ensures { result.now ≡ targets_of kind shape.now }
 {
     match kind {
@@ -100,7 +101,7 @@ fn targets(shape: &Shape, kind: CycleKind) -> &[u32]
 }
 
 /// What the declarations list for this kind.
-fn listed(alloc: Global, shapes: &[Shape], kind: CycleKind) -> Result<Vec<&[u32]>, AllocError>
+fn listed(alloc: Global, shapes: &[DeclShape], kind: CycleKind) -> Result<Vec<&[u32]>, AllocError>
     ensures { IfOk result (λ graph. map (λ t. t.now) graph.items ≡ map (targets_of kind) shapes.now) }
 {
     let mut graph = Vec::with_capacity(alloc, shapes.len())?;
@@ -122,7 +123,7 @@ fn lent(alloc: Global, rows: &[Vec<u32>]) -> Result<Vec<&[u32]>, AllocError>
 }
 
 /// Ranks the declarations by what they list for this kind.
-fn rank_listed(alloc: Global, shapes: &[Shape], kind: CycleKind) -> Result<Ranked, AllocError>
+fn rank_listed(alloc: Global, shapes: &[DeclShape], kind: CycleKind) -> Result<Ranked, AllocError>
     requires size { length shapes.now < 2 ^ 32 }
     requires shapes { AreShapes shapes.now }
     requires kind { kind ≢ CycleKind.Contains }
@@ -133,7 +134,7 @@ fn rank_listed(alloc: Global, shapes: &[Shape], kind: CycleKind) -> Result<Ranke
 }
 
 /// Ranks the declarations by what they contain.
-fn rank_contained(alloc: Global, shapes: &[Shape]) -> Result<Ranked, AllocError>
+fn rank_contained(alloc: Global, shapes: &[DeclShape]) -> Result<Ranked, AllocError>
     requires size { length shapes.now < 2 ^ 32 }
     requires shapes { AreShapes shapes.now }
     ensures { IfOk result (IsRanked (IsEdge shapes.now CycleKind.Contains) (length shapes.now)) }
@@ -152,7 +153,8 @@ struct Cycle {
 
 /// The first of what was found of the kinds before this one, and of this one.
 fn earlier(found: Option<Cycle>, kind: CycleKind, item: Option<u32>) -> Option<Cycle>
-    ensures { (shapes : List Shape) → IsFound shapes (place_of kind) found → IsFirstOf shapes kind item → IsFound shapes (place_of kind + 1) result }
+    ensures { (shapes : List DeclShape) → IsFound shapes (place_of kind) found → IsFirstOf shapes kind item
+        → IsFound shapes (place_of kind + 1) result }
 {
     let Some(item) = item else {
         return found;
@@ -166,15 +168,18 @@ fn earlier(found: Option<Cycle>, kind: CycleKind, item: Option<u32>) -> Option<C
     Some(Cycle { kind, item })
 }
 
-/// Tells whether one of these declarations lies on a forbidden cycle: of containment, of embedding, of aliases, of type parameter lists or
-/// of constants' values. Takes time in proportion to the declarations, their parameters, and what they contain and list.
-pub fn check_cycles(alloc: Global, shapes: &[Shape]) -> Result<Ranks, CycleFault>
+/// Tells whether one of these declarations lies on a forbidden cycle: of containment, of embedding, of aliases, of type
+/// parameter lists or of constants' values. Takes time in proportion to the declarations, their parameters, and what
+/// they contain and list.
+pub fn check_cycles(alloc: Global, shapes: &[DeclShape]) -> Result<Ranks, CycleFault>
     requires size { length shapes.now < 2 ^ 32 }
     requires shapes { AreShapes shapes.now }
-    ensures ranks { IfOk result (λ ranks. (kind : CycleKind) (s t : ℕ) → IsEdge shapes.now kind s t → rank_in ranks kind t < rank_in ranks kind s) }
+    ensures ranks { IfOk result (λ ranks. (kind : CycleKind) (s t : ℕ) → IsEdge shapes.now kind s t
+        → rank_in ranks kind t < rank_in ranks kind s) }
     ensures every { IfOk result (λ ranks. HasRanks ranks (length shapes.now)) }
     ensures acyclic { OnOk result ((kind : CycleKind) (s : ℕ) → IsCyclic shapes.now kind s → ⊥) }
-    ensures found { (kind : CycleKind) (item : ℕ) → result ≡ Err (CycleFault.Found kind item) → IsFirstCycle shapes.now kind item }
+    ensures found { (kind : CycleKind) (item : ℕ) → result ≡ Err (CycleFault.Found kind item)
+        → IsFirstCycle shapes.now kind item }
 {
     let contains = rank_contained(alloc, shapes)?;
     let embeds = rank_listed(alloc, shapes, CycleKind::Embeds)?;
@@ -200,5 +205,6 @@ pub fn check_cycles(alloc: Global, shapes: &[Shape]) -> Result<Ranks, CycleFault
 
 /// Where each edge of a kind leads to a smaller rank, no declaration lies on a cycle of that kind.
 pub fn ranks_exclude_cycles()
-    ensures { (shapes : List Shape) (kind : CycleKind) (rank : ℕ → ℕ) → ((s t : ℕ) → IsEdge shapes kind s t → rank t < rank s) → (s : ℕ) → IsCyclic shapes kind s → ⊥ }
+    ensures { (shapes : List DeclShape) (kind : CycleKind) (rank : ℕ → ℕ)
+        → ((s t : ℕ) → IsEdge shapes kind s t → rank t < rank s) → (s : ℕ) → IsCyclic shapes kind s → ⊥ }
 {}

@@ -7,4 +7,4 @@ mod cycles;
 mod shapes;
 
 pub use cycles::{CycleFault, CycleKind, Ranks, check_cycles, ranks_exclude_cycles};
-pub use shapes::{Form, Shape};
+pub use shapes::{DeclShape, Form};

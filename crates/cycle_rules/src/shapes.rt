@@ -17,7 +17,7 @@ pub enum Form {
 
 /// A declaration.
 #[derive(Debug, Drop)]
-pub struct Shape {
+pub struct DeclShape {
     /// How many type parameters it has.
     pub params: u32,
     pub holds: Form,

@@ -3,7 +3,7 @@ use Rattle.std.proofs.Common.{◌≡◌, ℕ, Option, Some, None, sym, ◌∙◌
 use Rattle.std.specs.Prelude.{IfSome, IfNone}
 use Rattle.std.specs.Option.{option_map}
 use Rattle.wire_bytes.proofs.Spellings.{IsBytes}
-use Rattle.wire_bytes.proofs.Texts.{IsBytes-drop}
+use Rattle.wire_bytes.proofs.TextLemmas.{IsBytes-drop}
 use Rattle.file_parts.specs.declared.parts.Parts.{Parts}
 use Rattle.decl_spelling.specs.Sections.{Sections}
 use Rattle.decl_spelling.specs.Heads.{Lead, IsHead, head_lead}

@@ -10,14 +10,14 @@ use Rattle.wire_bytes.specs.Uvarint.{Uvarint, uvarint_at}
 use Rattle.wire_bytes.specs.Varint.{Flag, flag_at}
 use Rattle.wire_bytes.specs.Text.{Text, text_in}
 use Rattle.wire_bytes.proofs.Spellings.{IsBytes}
-use Rattle.wire_bytes.proofs.Texts.{text_takes, text_again}
-use Rattle.wire_bytes.proofs.Many.{Takes}
-use Rattle.wire_bytes.proofs.Cursors.{uvarint_at_takes, uvarint_at_again}
+use Rattle.wire_bytes.proofs.TextLemmas.{text_takes, text_again}
+use Rattle.wire_bytes.proofs.ManyLemmas.{Takes}
+use Rattle.wire_bytes.proofs.CursorLemmas.{uvarint_at_takes, uvarint_at_again}
 use Rattle.position_codec.specs.Place.{Named, pos_of, moved_on}
 use Rattle.position_codec.specs.Position.{position_at}
 use Rattle.file_parts.specs.Paths.{IsPathAt, path_in}
-use Rattle.position_codec.proofs.Readings.{position_again}
-use Rattle.file_parts.proofs.PathNames.{path_again, path_takes}
+use Rattle.position_codec.proofs.PositionLemmas.{position_again}
+use Rattle.file_parts.proofs.PathLemmas.{path_again, path_takes}
 use Rattle.decl_spelling.specs.declared.mention.Demand.{Demand}
 use Rattle.decl_spelling.specs.Sections.{Sections}
 use Rattle.decl_spelling.specs.Reading.{Ahead, Stopped, onto, plain, placed, number_at, truth_at, text_at, path_at, pos_at, type_at}

@@ -2,7 +2,7 @@
 use Rattle.std.proofs.Common.{◌≡◌, ℕ, zero, suc, ◌+◌, ◌-◌, ◌<◌, ◌≤◌, List, length, Result, Ok, Err, Some, None, refl, ap, subst, arith, length-append}
 use Rattle.wire_bytes.proofs.Steps.{bind_ok, done_is}
 use Rattle.wire_bytes.proofs.Spellings.{IsBytes}
-use Rattle.wire_bytes.proofs.Texts.{IsBytes-drop}
+use Rattle.wire_bytes.proofs.TextLemmas.{IsBytes-drop}
 use Rattle.type_terms.specs.Shapes.{retype}
 use Rattle.type_terms.specs.Trees.{tree_of}
 use Rattle.position_codec.specs.Place.{no_place}

@@ -10,7 +10,7 @@ use Rattle.wire_bytes.specs.declared.fault.ByteFault.TheVariants as faults
 use Rattle.wire_bytes.specs.Reading.{place, ◌>>=◌, byte_at}
 use Rattle.wire_bytes.specs.Begins.{Begins}
 use Rattle.wire_bytes.proofs.Spellings.{IsBytes}
-use Rattle.wire_bytes.proofs.Cursors.{byte_at_takes, byte_at_again}
+use Rattle.wire_bytes.proofs.CursorLemmas.{byte_at_takes, byte_at_again}
 use Rattle.type_terms.specs.Trees.{Text}
 use Rattle.type_terms.specs.Declarations.{var_of, function_of, constant_of, defined_of, renamed_of, type_parameter_of, receiver_types}
 use Rattle.decl_spelling.specs.declared.mention.Demand.{Demand}

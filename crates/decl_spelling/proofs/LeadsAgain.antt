@@ -11,8 +11,8 @@ use Rattle.wire_bytes.specs.Begins.{Begins}
 use Rattle.wire_bytes.specs.Uvarint.{BeginsWith}
 use Rattle.wire_bytes.specs.Varint.{Varint, number_of, signed_of}
 use Rattle.wire_bytes.proofs.Spellings.{begins_again}
-use Rattle.wire_bytes.proofs.Texts.{text_again}
-use Rattle.wire_bytes.proofs.PrefixCodes.{signed_even, signed_odd}
+use Rattle.wire_bytes.proofs.TextLemmas.{text_again}
+use Rattle.wire_bytes.proofs.PrefixCodeLemmas.{signed_even, signed_odd}
 use Rattle.position_codec.specs.Place.{is_odd}
 use Rattle.decl_spelling.specs.Sections.{Sections}
 use Rattle.decl_spelling.specs.Heads.{Lead, to_basic, to_name, HasText, HasFile, HasLine, HasPosition, HasNumbers, HasName, IsKindAt, IsNameAt, IsInstanceAt, LeadsTo, HasTParams, IsHead, front_of, find_number, find_signed, find_text, pass_file, pass_line, pass_position, pass_times, pass_numbers, find_name, kind_at, name_by, name_at, find_base, type_by, lead_at, lead_of, pass_tparams, head_lead}

@@ -17,8 +17,8 @@ use Rattle.wire_bytes.specs.Varint.{Varint, signed_of}
 use Rattle.wire_bytes.specs.Text.{text_in}
 use Rattle.wire_bytes.proofs.Steps.{chosen}
 use Rattle.wire_bytes.proofs.Spellings.{IsBytes, IsBytes-rest, uvarint_takes}
-use Rattle.wire_bytes.proofs.Texts.{IsBytes-drop, text_takes}
-use Rattle.wire_bytes.proofs.Cursors.{IsBytes-behind}
+use Rattle.wire_bytes.proofs.TextLemmas.{IsBytes-drop, text_takes}
+use Rattle.wire_bytes.proofs.CursorLemmas.{IsBytes-behind}
 use Rattle.position_codec.specs.Place.{is_odd}
 use Rattle.file_parts.specs.Paths.{meant}
 use Rattle.decl_spelling.specs.Sections.{Sections}

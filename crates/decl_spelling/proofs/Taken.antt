@@ -13,14 +13,14 @@ use Rattle.wire_bytes.specs.Whole.{IsGreatestLength, Whole, small_limit, length_
 use Rattle.wire_bytes.specs.Text.{Text, text_in}
 use Rattle.wire_bytes.proofs.Steps.{bind_ok, demand_ok, chosen, done_is}
 use Rattle.wire_bytes.proofs.Spellings.{IsBytes}
-use Rattle.wire_bytes.proofs.Texts.{text_takes}
-use Rattle.wire_bytes.proofs.Many.{Takes}
-use Rattle.wire_bytes.proofs.Cursors.{uvarint_at_takes, uvarint_at_again, byte_at_takes, bytes_at_takes, or_fault_ok}
-use Rattle.wire_bytes.proofs.Wholes.{long_takes, found_short, found_long}
+use Rattle.wire_bytes.proofs.TextLemmas.{text_takes}
+use Rattle.wire_bytes.proofs.ManyLemmas.{Takes}
+use Rattle.wire_bytes.proofs.CursorLemmas.{uvarint_at_takes, uvarint_at_again, byte_at_takes, bytes_at_takes, or_fault_ok}
+use Rattle.wire_bytes.proofs.WholeLemmas.{long_takes, found_short, found_long}
 use Rattle.position_codec.specs.Place.{Place, Named, half, is_odd, moved}
 use Rattle.position_codec.specs.Position.{Position, moved_at, file_at, line_at, behind_line, behind_column, position_at}
-use Rattle.position_codec.proofs.Differences.{number_zero}
-use Rattle.position_codec.proofs.Places.{Moves, column_stands, line_stands, file_stands}
+use Rattle.position_codec.proofs.DeltaLemmas.{number_zero}
+use Rattle.position_codec.proofs.PlaceLemmas.{Moves, column_stands, line_stands, file_stands}
 
 -- ---- flags
 

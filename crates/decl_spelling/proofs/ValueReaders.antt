@@ -13,7 +13,7 @@ use Rattle.wire_bytes.specs.Varint.{Varint, number_of, signed_of, varint_at}
 use Rattle.wire_bytes.specs.Whole.{Whole, whole_at}
 use Rattle.wire_bytes.proofs.Spellings.{IsBytes}
 use Rattle.wire_bytes.proofs.WholeSpellings.{whole_again}
-use Rattle.position_codec.proofs.Readings.{varint_at_again}
+use Rattle.position_codec.proofs.PositionLemmas.{varint_at_again}
 use Rattle.decl_spelling.specs.Sections.{Sections}
 use Rattle.decl_spelling.specs.Reading.{Ahead, Reader, Stopped, plain, truth_at, text_at}
 use Rattle.decl_spelling.specs.Constants.{Spelling, flag, offset, number, spelled, kind_of, kind_number, kind_given_at, kind_at, with_value, spelled_at, value_at}

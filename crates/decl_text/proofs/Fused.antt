@@ -16,7 +16,7 @@ use Rattle.type_terms.specs.NodeShapes.{param_shape, field_shape, method_shape, 
 use Rattle.decl_text.specs.Joined.{joined, between}
 use Rattle.decl_text.specs.TypeText.{param_text, dotted, spread, field_text, method_text, term_text}
 use Rattle.decl_text.specs.PieceText.{described_receiver, receiver_line, described_param, described_params, described_field, described_method, described_term, param_line, field_line, method_line, term_line}
-use Rattle.decl_text.proofs.Joins.{joined_append, length_map, split_last}
+use Rattle.decl_text.proofs.JoinedLemmas.{joined_append, length_map, split_last}
 
 fused : {A B C D : Type 0} (f : C → D) (g : B → C) (h : A → B) (xs : List A) → map (λ (x : A). f (g (h x))) xs ≡ map f (map g (map h xs))
 fused f g h [] = refl

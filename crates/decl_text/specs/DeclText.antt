@@ -7,7 +7,8 @@ use Rattle.go_values.specs.declared.qualified.QName.{QName}
 use Rattle.go_values.specs.declared.constants.Const.{Const}
 use Rattle.go_values.specs.declared.constants.Const.TheVariants.{Bool as Truth, Int, Str}
 use Rattle.type_terms.specs.Trees.{Text}
-use Rattle.type_terms.specs.Declarations.{ReceiverOf, Form, var_of, function_of, constant_of, defined_of, renamed_of, type_parameter_of, form_map, form_types, Decl}
+use Rattle.type_terms.specs.Declarations.{ReceiverOf, Form, var_of, function_of, constant_of, defined_of, renamed_of}
+use Rattle.type_terms.specs.Declarations.{type_parameter_of, form_map, form_types, Decl}
 use Rattle.decl_text.specs.Printed.{printed, quoted}
 use Rattle.decl_text.specs.TypeText.{pos_text, param_text, sig_text, bracketed}
 use Rattle.decl_text.specs.Numbers.{Numbers, reference, number_all}
@@ -41,7 +42,8 @@ form_text (function_of pos tparams sig) = codes "func" ++ tparams_text tparams +
 form_text (constant_of pos type value) = codes "const " ++ type ++ codes " = " ++ value_text value
 form_text (defined_of pos tparams underlying methods) = codes "type" ++ tparams_text tparams ++ codes " " ++ underlying
 form_text (renamed_of pos tparams type) = codes "alias" ++ tparams_text tparams ++ codes " " ++ type
-form_text (type_parameter_of pos implicit constraint) = codes "param " ++ (if implicit then codes "implicit " else []) ++ constraint
+form_text (type_parameter_of pos implicit constraint) = codes "param " ++ (if implicit then codes "implicit "
+    else []) ++ constraint
 
 abbrev pub form_methods : Described → List (ReceiverOf Pos Text Text)
 form_methods (defined_of pos tparams underlying methods) = methods
@@ -51,7 +53,8 @@ abbrev pub line : Text → Text
 line text = text ++ codes "\n"
 
 abbrev pub first_line : QName → Described → Text
-first_line q form = line (printed q.path ++ codes ":" ++ printed q.name ++ codes " " ++ pos_text (form_pos form) ++ codes " " ++ form_text form)
+first_line q form = line (printed q.path ++ codes ":" ++ printed q.name ++ codes " " ++ pos_text (form_pos form)
+    ++ codes " " ++ form_text form)
 
 abbrev pub number_line : ℕ → Text → Text
 number_line number text = line (codes "  #" ++ decimal number ++ codes " " ++ text)
@@ -62,7 +65,8 @@ number_lines first [] = []
 number_lines first (text ∷ texts) = number_line first text ++ number_lines (first + 1) texts
 
 abbrev pub method_line : ReceiverOf Pos Text Text → Text
-method_line x = line (codes "  method " ++ pos_text x.pos ++ codes " " ++ printed x.name ++ codes " (" ++ param_text x.recv ++ codes ") " ++ sig_text x.sig)
+method_line x = line (codes "  method " ++ pos_text x.pos ++ codes " " ++ printed x.name
+    ++ codes " (" ++ param_text x.recv ++ codes ") " ++ sig_text x.sig)
 
 abbrev pub numbers_of : Decl → Numbers
 numbers_of decl = number_all (form_types decl)

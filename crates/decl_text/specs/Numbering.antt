@@ -6,7 +6,8 @@ use Rattle.decl_text.specs.Numbers.{Numbers}
 use Rattle.decl_text.specs.NodeNumbers.{numbered_at, AreThere}
 
 abbrev pub numbers_at : List Node → Numbering → Numbers
-numbers_at nodes numbering = record { types = numbered_at nodes numbering.numbers.entries; lines = numbering.lines.keys }
+numbers_at nodes numbering = record
+    { types = numbered_at nodes numbering.numbers.entries; lines = numbering.lines.keys }
 
 abbrev pub StandsIn : List Node → Numbering → Type 0
 StandsIn nodes numbering = AreThere nodes numbering.numbers.entries

@@ -1,6 +1,6 @@
 -- How types are numbered. A predeclared type, a defined type, a type parameter and an alias go by their names, and all
--- others by numbers. A type gets its number when a walk first finishes it: the number of its line where the line is there
--- already, else the next one.
+-- others by numbers. A type gets its number when a walk first finishes it: the number of its line where the line is
+-- there already, else the next one.
 use Rattle.std.specs.Prelude.{ℕ, Bool, true, false, cond, ◌||◌, List, [], ◌∷◌, ◌++◌, Option, fold, codes, decimal}
 use Rattle.std.specs.List.{list_any, flat_map, position_or_len}
 use Rattle.std.specs.Option.{is_some, unwrap_or}

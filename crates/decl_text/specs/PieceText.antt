@@ -10,7 +10,8 @@ use Rattle.type_terms.specs.declared.literals.Term.{Term}
 use Rattle.type_terms.specs.declared.declarations.Method.{Method}
 use Rattle.type_terms.specs.declared.declarations.DeclNode.{DeclNode}
 use Rattle.type_terms.specs.Declarations.{ReceiverOf, receiver_map, receiver_shape, form_map, decl_form}
-use Rattle.type_terms.specs.Shapes.{ParamOf, FieldOf, MethodOf, TermOf, param_map, sig_map, field_map, method_map, term_map, retype}
+use Rattle.type_terms.specs.Shapes.{ParamOf, FieldOf, MethodOf, TermOf, param_map, sig_map, field_map, method_map}
+use Rattle.type_terms.specs.Shapes.{term_map, retype}
 use Rattle.type_terms.specs.Trees.{Text}
 use Rattle.type_terms.specs.NodeShapes.{param_shape, sig_shape, field_shape, method_shape, term_shape, node_shape}
 use Rattle.decl_text.specs.DeclText.{Described, method_line as method_line_of}

@@ -26,5 +26,6 @@ pub record IsEntered (nodes : List Node) (id : ℕ) (before after : List Task) :
 
 -- What a task does to the other tasks and to the numbers: a settled type isn't entered.
 abbrev pub Steps : List Node → Task → List Task → Numbers → List Task → Numbers → Type 0
-Steps nodes (Enter id) tasks numbers after new = (new ≡ numbers) × (((is_settled numbers.types (tree nodes id) ≡ true) × (after ≡ tasks)) ⊎ IsEntered nodes id tasks after)
+Steps nodes (Enter id) tasks numbers after new = (new ≡ numbers)
+    × (((is_settled numbers.types (tree nodes id) ≡ true) × (after ≡ tasks)) ⊎ IsEntered nodes id tasks after)
 Steps nodes (Finish id) tasks numbers after new = (new ≡ finish numbers (tree nodes id)) × (after ≡ tasks)

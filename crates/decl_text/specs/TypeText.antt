@@ -4,7 +4,9 @@ use Rattle.go_values.specs.declared.positions.Pos.{Pos}
 use Rattle.go_values.specs.declared.positions.Pos.TheVariants.{Nowhere, At}
 use Rattle.type_terms.specs.declared.literals.Dir.{Dir}
 use Rattle.type_terms.specs.declared.literals.Dir.TheVariants.{Receive, Send, Both}
-use Rattle.type_terms.specs.Shapes.{ParamOf, SigOf, FieldOf, MethodOf, TermOf, Shape, predeclared_of, named_of, parameter_of, alias_of, pointer_of, slice_of, array_of, chan_of, map_of, func_of, struct_of, interface_of, instance_of, union_of}
+use Rattle.type_terms.specs.Shapes.{ParamOf, SigOf, FieldOf, MethodOf, TermOf, Shape, predeclared_of, named_of}
+use Rattle.type_terms.specs.Shapes.{parameter_of, alias_of, pointer_of, slice_of, array_of, chan_of, map_of, func_of}
+use Rattle.type_terms.specs.Shapes.{struct_of, interface_of, instance_of, union_of}
 use Rattle.type_terms.specs.Trees.{Text}
 use Rattle.decl_text.specs.Printed.{printed, quoted}
 use Rattle.decl_text.specs.Joined.{joined}
@@ -82,7 +84,9 @@ type_text (array_of size type) = codes "[" ++ decimal size ++ codes "]" ++ type
 type_text (chan_of dir type) = chan_word dir ++ type
 type_text (map_of key type) = codes "map[" ++ key ++ codes "]" ++ type
 type_text (func_of home sig) = codes "func" ++ sig_text sig
-type_text (struct_of home fields) = codes "struct " ++ printed home ++ codes " {" ++ joined (codes "; ") (map field_text fields) ++ codes "}"
-type_text (interface_of home embedded methods) = codes "interface " ++ printed home ++ codes " {" ++ joined (codes "; ") (embedded ++ map method_text methods) ++ codes "}"
+type_text (struct_of home fields) = codes "struct " ++ printed home
+    ++ codes " {" ++ joined (codes "; ") (map field_text fields) ++ codes "}"
+type_text (interface_of home embedded methods) = codes "interface " ++ printed home
+    ++ codes " {" ++ joined (codes "; ") (embedded ++ map method_text methods) ++ codes "}"
 type_text (instance_of base args) = base ++ bracketed args
 type_text (union_of terms) = joined (codes " | ") (map term_text terms)

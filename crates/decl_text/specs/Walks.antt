@@ -1,6 +1,9 @@
 -- A walk through a type, depth first and from left to right: each type stands behind those that stand in it.
 use Rattle.std.specs.Prelude.{List, [], ◌∷◌, ◌++◌}
-use Rattle.type_terms.specs.Trees.{Tree, predeclared, named, parameter, alias, pointer, slice, array, chan, map_type, func, struct, interface, instance, union, Trees, no_types, types, Params, no_params, params, Fields, no_fields, fields, Methods, no_methods, methods, Terms, no_terms, terms}
+use Rattle.type_terms.specs.Trees.{Tree, predeclared, named, parameter, alias, pointer, slice, array, chan, map_type}
+use Rattle.type_terms.specs.Trees.{func, struct, interface, instance, union, Trees, no_types, types, Params, no_params}
+use Rattle.type_terms.specs.Trees.{params, Fields, no_fields, fields, Methods, no_methods, methods, Terms, no_terms}
+use Rattle.type_terms.specs.Trees.{terms}
 
 abbrev mutual
   pub walk : Tree → List Tree
@@ -15,7 +18,8 @@ abbrev mutual
   walk (map_type key type) = (walk key ++ walk type) ++ map_type key type ∷ []
   walk (func home ins outs variadic) = (params_walk ins ++ params_walk outs) ++ func home ins outs variadic ∷ []
   walk (struct home inner) = fields_walk inner ++ struct home inner ∷ []
-  walk (interface home embedded inner) = (types_walk embedded ++ methods_walk inner) ++ interface home embedded inner ∷ []
+  walk (interface home embedded inner) = (types_walk embedded ++ methods_walk inner) ++ interface home embedded inner
+      ∷ []
   walk (instance base args) = (types_walk args ++ walk base) ++ instance base args ∷ []
   walk (union inner) = terms_walk inner ++ union inner ∷ []
 
@@ -33,7 +37,8 @@ abbrev mutual
 
   pub methods_walk : Methods → List Tree
   methods_walk no_methods = []
-  methods_walk (methods origin pos name ins outs variadic rest) = (params_walk ins ++ params_walk outs) ++ methods_walk rest
+  methods_walk (methods origin pos name ins outs variadic rest) = (params_walk ins ++ params_walk outs)
+      ++ methods_walk rest
 
   pub terms_walk : Terms → List Tree
   terms_walk no_terms = []

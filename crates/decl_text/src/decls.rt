@@ -4,7 +4,8 @@ ghost use Rattle.type_terms.specs.Arenas.{AllBelow};
 ghost use Rattle.type_terms.specs.Declarations.{receiver_types, receiver_shape, decl_nodes};
 ghost use Rattle.type_terms.specs.NodeShapes.{sig_shape};
 ghost use Rattle.type_terms.specs.Shapes.{sig_types};
-ghost use Rattle.decl_text.specs.DeclText.{value_text, tparams_text, form_pos, form_text, form_methods, method_line, first_line};
+ghost use Rattle.decl_text.specs.DeclText.{value_text, tparams_text, form_pos, form_text, form_methods, method_line};
+ghost use Rattle.decl_text.specs.DeclText.{first_line};
 ghost use Rattle.decl_text.specs.PieceText.{sig_line, described_decl};
 ghost use Rattle.decl_text.specs.Referring.{refer, node_count};
 
@@ -65,7 +66,8 @@ fn push_defined(
     methods: &[Method],
     into: &mut Vec<NodeId>,
 ) -> Result<(), AllocError>
-    ensures { OnOk result (into.new.items ≡ into.old.items ++ (tparams.now ++ underlying ∷ flat_map receiver_types (map receiver_shape methods.now))) }
+    ensures { OnOk result (into.new.items ≡ into.old.items
+        ++ (tparams.now ++ underlying ∷ flat_map receiver_types (map receiver_shape methods.now))) }
 {
     push_alias(tparams, underlying, into)?;
     push_methods(methods, into)
@@ -73,7 +75,8 @@ fn push_defined(
 
 #[tactic(auto, using(crate::proofs::Fused::receivers_types))]
 fn push_methods(methods: &[Method], into: &mut Vec<NodeId>) -> Result<(), AllocError>
-    ensures { OnOk result (into.new.items ≡ into.old.items ++ flat_map receiver_types (map receiver_shape methods.now)) }
+    ensures { OnOk result (into.new.items ≡ into.old.items
+        ++ flat_map receiver_types (map receiver_shape methods.now)) }
 {
     push_all(methods, into)
 }
@@ -86,7 +89,8 @@ pub fn put_first_line(
     names: &References<'_>,
 ) -> Result<(), AllocError>
     requires { AllBelow (node_count names.now) (decl_nodes decl.now) }
-    ensures { OnOk result (text.new.items ≡ text.old.items ++ first_line q.now (described_decl (refer names.now) decl.now)) }
+    ensures { OnOk result (text.new.items ≡ text.old.items
+        ++ first_line q.now (described_decl (refer names.now) decl.now)) }
 {
     put_printed(text, q.path.as_slice())?;
     text.extend_from_slice(b":")?;
@@ -145,7 +149,8 @@ fn put_function(
 ) -> Result<(), AllocError>
     requires tparams { AllBelow (node_count names.now) tparams.now }
     requires sig { AllBelow (node_count names.now) (sig_types (sig_shape sig.now)) }
-    ensures { OnOk result (text.new.items ≡ text.old.items ++ (codes "func" ++ tparams_text (map (refer names.now) tparams.now) ++ sig_line (refer names.now) sig.now)) }
+    ensures { OnOk result (text.new.items ≡ text.old.items
+        ++ (codes "func" ++ tparams_text (map (refer names.now) tparams.now) ++ sig_line (refer names.now) sig.now)) }
 {
     text.extend_from_slice(b"func")?;
     put_tparams(text, tparams, names)?;
@@ -159,7 +164,8 @@ fn put_constant(
     names: &References<'_>,
 ) -> Result<(), AllocError>
     requires { ty < node_count names.now }
-    ensures { OnOk result (text.new.items ≡ text.old.items ++ (codes "const " ++ refer names.now ty ++ codes " = " ++ value_text value.now)) }
+    ensures { OnOk result (text.new.items ≡ text.old.items
+        ++ (codes "const " ++ refer names.now ty ++ codes " = " ++ value_text value.now)) }
 {
     put_prefixed(text, b"const ", ty, names)?;
     text.extend_from_slice(b" = ")?;
@@ -176,7 +182,8 @@ fn put_named(
 ) -> Result<(), AllocError>
     requires tparams { AllBelow (node_count names.now) tparams.now }
     requires there { ty < node_count names.now }
-    ensures { OnOk result (text.new.items ≡ text.old.items ++ (word.now ++ tparams_text (map (refer names.now) tparams.now) ++ codes " " ++ refer names.now ty)) }
+    ensures { OnOk result (text.new.items ≡ text.old.items
+        ++ (word.now ++ tparams_text (map (refer names.now) tparams.now) ++ codes " " ++ refer names.now ty)) }
 {
     text.extend_from_slice(word)?;
     put_tparams(text, tparams, names)?;
@@ -190,7 +197,8 @@ fn put_parameter(
     names: &References<'_>,
 ) -> Result<(), AllocError>
     requires { constraint < node_count names.now }
-    ensures { OnOk result (text.new.items ≡ text.old.items ++ (codes "param " ++ (if implicit then codes "implicit " else []) ++ refer names.now constraint)) }
+    ensures { OnOk result (text.new.items ≡ text.old.items
+        ++ (codes "param " ++ (if implicit then codes "implicit " else []) ++ refer names.now constraint)) }
 {
     text.extend_from_slice(b"param ")?;
     put_mark(text, b"implicit ", implicit)?;
@@ -219,7 +227,8 @@ pub fn put_method_lines(
     names: &References<'_>,
 ) -> Result<(), AllocError>
     requires { AllBelow (node_count names.now) (decl_nodes decl.now) }
-    ensures { OnOk result (text.new.items ≡ text.old.items ++ flat_map method_line (form_methods (described_decl (refer names.now) decl.now))) }
+    ensures { OnOk result (text.new.items ≡ text.old.items
+        ++ flat_map method_line (form_methods (described_decl (refer names.now) decl.now))) }
 {
     match decl {
         DeclNode::Defined { methods, .. } => put_methods(text, methods.items(), names),

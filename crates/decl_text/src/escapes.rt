@@ -51,7 +51,7 @@ fn has_escapes(text: &[u8]) -> bool
 
 /// Adds a path, a name, a label or a file as it is printed: each byte below 21 in base 16, 7f, the quote and the
 /// backslash as `\x` and two digits.
-#[tactic(auto, using(crate::proofs::Plain::printed_plain))]
+#[tactic(auto, using(crate::proofs::PrintedLemmas::printed_plain))]
 pub fn put_printed(line: &mut Vec<u8>, text: &[u8]) -> Result<(), AllocError>
     ensures { OnOk result (line.new.items ≡ line.old.items ++ printed text.now) }
 {

@@ -14,10 +14,12 @@ pub fn a_walk_finishes_parts_first()
 
 /// A walk through a type that was finished adds nothing.
 pub fn a_finished_type_adds_nothing()
-    ensures { (types : List Tree) (type : Tree) → is_settled (number_all types).types type ≡ true → finish_all (number_all types) (walk type) ≡ number_all types }
+    ensures { (types : List Tree) (type : Tree) → is_settled (number_all types).types type ≡ true
+        → finish_all (number_all types) (walk type) ≡ number_all types }
 {}
 
 /// The line of a number is the line of each type that has the number.
 pub fn types_of_one_number_have_one_line()
-    ensures { (types : List Tree) (type : Tree) (number : ℕ) → number_of (number_all types).types type ≡ Some number → slice_get (number_all types).lines number ≡ Some (line_of (number_all types).types type) }
+    ensures { (types : List Tree) (type : Tree) (number : ℕ) → number_of (number_all types).types type ≡ Some number
+        → slice_get (number_all types).lines number ≡ Some (line_of (number_all types).types type) }
 {}

@@ -48,7 +48,8 @@ pub fn put_methods(
     names: &References<'_>,
 ) -> Result<(), AllocError>
     requires { AllBelow (node_count names.now) (flat_map receiver_types (map receiver_shape methods.now)) }
-    ensures { OnOk result (text.new.items ≡ text.old.items ++ flat_map method_line (map (described_receiver (refer names.now)) (map receiver_shape methods.now))) }
+    ensures { OnOk result (text.new.items ≡ text.old.items
+        ++ flat_map method_line (map (described_receiver (refer names.now)) (map receiver_shape methods.now))) }
 {
     put_joined(text, methods, b"", names)
 }

@@ -16,7 +16,9 @@ impl References<'_> {
     fn number(&self, id: NodeId) -> usize
         requires there { id < node_count self.now }
         requires arena { IsArena self.now.arena.now.nodes }
-        ensures { result ≡ unwrap_or (number_of (numbered_at self.now.arena.now.nodes self.now.numbers.now.entries) (tree self.now.arena.now.nodes id)) 0 }
+        ensures { result
+            ≡ unwrap_or (number_of (numbered_at self.now.arena.now.nodes self.now.numbers.now.entries)
+            (tree self.now.arena.now.nodes id)) 0 }
     {
         match self.numbers.get(&id) {
             Some(number) => *number,

@@ -46,7 +46,8 @@ impl Numbering {
     pub fn is_settled(&self, arena: &Arena, id: NodeId) -> bool
         requires there { id < length arena.now.nodes }
         requires stands { StandsIn arena.now.nodes self.now }
-        ensures settled { result ≡ is_settled (numbered_at arena.now.nodes self.now.numbers.entries) (tree arena.now.nodes id) }
+        ensures settled { result
+            ≡ is_settled (numbered_at arena.now.nodes self.now.numbers.entries) (tree arena.now.nodes id) }
         ensures missing { result ≡ false → lookup (nat_eq id) self.now.numbers.entries ≡ None }
     {
         let has_name = goes_by_name(arena.node(id));
@@ -58,7 +59,8 @@ impl Numbering {
     pub fn finish(&mut self, alloc: Global, arena: &Arena, id: NodeId) -> Result<(), AllocError>
         requires there { id < length arena.now.nodes }
         requires stands { StandsIn arena.now.nodes self.old }
-        ensures numbers { OnOk result (numbers_at arena.now.nodes self.new ≡ finish (numbers_at arena.now.nodes self.old) (tree arena.now.nodes id)) }
+        ensures numbers { OnOk result (numbers_at arena.now.nodes self.new
+            ≡ finish (numbers_at arena.now.nodes self.old) (tree arena.now.nodes id)) }
         ensures stands { OnOk result (StandsIn arena.now.nodes self.new) }
     {
         if self.is_settled(arena, id) {
@@ -74,7 +76,8 @@ impl Numbering {
     fn line_of(&self, alloc: Global, arena: &Arena, id: NodeId) -> Result<Bytes, AllocError>
         requires there { id < length arena.now.nodes }
         requires stands { StandsIn arena.now.nodes self.now }
-        ensures { IfOk result (λ line. line ≡ line_of (numbered_at arena.now.nodes self.now.numbers.entries) (tree arena.now.nodes id)) }
+        ensures { IfOk result (λ line.
+            line ≡ line_of (numbered_at arena.now.nodes self.now.numbers.entries) (tree arena.now.nodes id)) }
     {
         let names = References {
             arena,

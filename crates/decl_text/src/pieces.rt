@@ -118,7 +118,8 @@ pub fn put_joined<T: Piece>(
     names: &References<'_>,
 ) -> Result<(), AllocError>
     requires { AllBelow (node_count names.now) (flat_map T.types pieces.now) }
-    ensures { OnOk result (line.new.items ≡ line.old.items ++ joined divider.now (map (T.text (refer names.now)) pieces.now)) }
+    ensures { OnOk result (line.new.items ≡ line.old.items
+        ++ joined divider.now (map (T.text (refer names.now)) pieces.now)) }
 {
     for (k, piece) in pieces.iter().enumerate() {
         put_between(line, divider, k, 1)?;

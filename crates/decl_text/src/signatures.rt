@@ -49,7 +49,9 @@ fn put_params(
     names: &References<'_>,
 ) -> Result<(), AllocError>
     requires { AllBelow (node_count names.now) (flat_map param_types (map param_shape params.now)) }
-    ensures { OnOk result (line.new.items ≡ line.old.items ++ params_text (if variadic then spread (described_params (refer names.now) params.now) else described_params (refer names.now) params.now)) }
+    ensures { OnOk result (line.new.items ≡ line.old.items ++ params_text (if variadic
+        then spread (described_params (refer names.now) params.now)
+        else described_params (refer names.now) params.now)) }
 {
     line.extend_from_slice(b"(")?;
     put_param_list(line, params, variadic, names)?;
@@ -64,7 +66,9 @@ fn put_param_list(
     names: &References<'_>,
 ) -> Result<(), AllocError>
     requires { AllBelow (node_count names.now) (flat_map param_types (map param_shape params.now)) }
-    ensures { OnOk result (line.new.items ≡ line.old.items ++ joined (codes ", ") (map param_text (if variadic then spread (described_params (refer names.now) params.now) else described_params (refer names.now) params.now))) }
+    ensures { OnOk result (line.new.items ≡ line.old.items
+        ++ joined (codes ", ") (map param_text (if variadic then spread (described_params (refer names.now) params.now)
+        else described_params (refer names.now) params.now))) }
 {
     if variadic {
         put_spread_list(line, params, names)
@@ -81,7 +85,8 @@ fn put_plain_list(
     names: &References<'_>,
 ) -> Result<(), AllocError>
     requires { AllBelow (node_count names.now) (flat_map param_types (map param_shape params.now)) }
-    ensures { OnOk result (line.new.items ≡ line.old.items ++ joined (codes ", ") (map param_text (described_params (refer names.now) params.now))) }
+    ensures { OnOk result (line.new.items ≡ line.old.items
+        ++ joined (codes ", ") (map param_text (described_params (refer names.now) params.now))) }
 {
     put_joined(line, params, b", ", names)
 }
@@ -93,7 +98,8 @@ fn put_spread_list(
     names: &References<'_>,
 ) -> Result<(), AllocError>
     requires { AllBelow (node_count names.now) (flat_map param_types (map param_shape params.now)) }
-    ensures { OnOk result (line.new.items ≡ line.old.items ++ joined (codes ", ") (map param_text (spread (described_params (refer names.now) params.now)))) }
+    ensures { OnOk result (line.new.items ≡ line.old.items
+        ++ joined (codes ", ") (map param_text (spread (described_params (refer names.now) params.now)))) }
 {
     let [front @ .., last] = params else {
         return Ok(());
@@ -110,7 +116,8 @@ fn put_spread(
     names: &References<'_>,
 ) -> Result<(), AllocError>
     requires { AllBelow (node_count names.now) (param_types (param_shape param.now)) }
-    ensures { OnOk result (line.new.items ≡ line.old.items ++ param_text (dotted (described_param (refer names.now) (param_shape param.now)))) }
+    ensures { OnOk result (line.new.items ≡ line.old.items
+        ++ param_text (dotted (described_param (refer names.now) (param_shape param.now)))) }
 {
     put_param_name(line, param.name.as_slice())?;
     line.extend_from_slice(b" ...")?;
@@ -124,7 +131,8 @@ fn put_results(
     names: &References<'_>,
 ) -> Result<(), AllocError>
     requires { AllBelow (node_count names.now) (flat_map param_types (map param_shape results.now)) }
-    ensures { OnOk result (line.new.items ≡ line.old.items ++ results_text (described_params (refer names.now) results.now)) }
+    ensures { OnOk result (line.new.items ≡ line.old.items
+        ++ results_text (described_params (refer names.now) results.now)) }
 {
     match results {
         [] => Ok(()),

@@ -80,7 +80,8 @@ fn put_array(
     names: &References<'_>,
 ) -> Result<(), AllocError>
     requires { id < node_count names.now }
-    ensures { OnOk result (line.new.items ≡ line.old.items ++ (codes "[" ++ decimal size ++ codes "]" ++ refer names.now id)) }
+    ensures { OnOk result (line.new.items ≡ line.old.items
+        ++ (codes "[" ++ decimal size ++ codes "]" ++ refer names.now id)) }
 {
     line.extend_from_slice(b"[")?;
     put_decimal(line, size)?;
@@ -95,7 +96,8 @@ fn put_map(
 ) -> Result<(), AllocError>
     requires key { key < node_count names.now }
     requires element { id < node_count names.now }
-    ensures { OnOk result (line.new.items ≡ line.old.items ++ (codes "map[" ++ refer names.now key ++ codes "]" ++ refer names.now id)) }
+    ensures { OnOk result (line.new.items ≡ line.old.items
+        ++ (codes "map[" ++ refer names.now key ++ codes "]" ++ refer names.now id)) }
 {
     put_prefixed(line, b"map[", key, names)?;
     put_prefixed(line, b"]", id, names)
@@ -108,7 +110,11 @@ fn put_struct(
     names: &References<'_>,
 ) -> Result<(), AllocError>
     requires { AllBelow (node_count names.now) (flat_map field_types (map field_shape fields.now)) }
-    ensures { OnOk result (line.new.items ≡ line.old.items ++ (codes "struct " ++ printed home.now ++ codes " {" ++ joined (codes "; ") (map field_text (map (described_field (refer names.now)) (map field_shape fields.now))) ++ codes "}")) }
+    ensures { OnOk result (line.new.items ≡ line.old.items
+        ++ (codes "struct " ++ printed home.now
+        ++ codes " {"
+        ++ joined (codes "; ") (map field_text (map (described_field (refer names.now)) (map field_shape fields.now)))
+        ++ codes "}")) }
 {
     line.extend_from_slice(b"struct ")?;
     put_printed(line, home)?;
@@ -124,7 +130,9 @@ fn put_fields(
     names: &References<'_>,
 ) -> Result<(), AllocError>
     requires { AllBelow (node_count names.now) (flat_map field_types (map field_shape fields.now)) }
-    ensures { OnOk result (line.new.items ≡ line.old.items ++ joined (codes "; ") (map field_text (map (described_field (refer names.now)) (map field_shape fields.now)))) }
+    ensures { OnOk result (line.new.items ≡ line.old.items
+        ++ joined (codes "; ")
+        (map field_text (map (described_field (refer names.now)) (map field_shape fields.now)))) }
 {
     put_joined(line, fields, b"; ", names)
 }
@@ -138,7 +146,11 @@ fn put_interface(
 ) -> Result<(), AllocError>
     requires embedded { AllBelow (node_count names.now) embedded.now }
     requires methods { AllBelow (node_count names.now) (flat_map method_types (map method_shape methods.now)) }
-    ensures { OnOk result (line.new.items ≡ line.old.items ++ (codes "interface " ++ printed home.now ++ codes " {" ++ joined (codes "; ") (map (refer names.now) embedded.now ++ map method_text (map (described_method (refer names.now)) (map method_shape methods.now))) ++ codes "}")) }
+    ensures { OnOk result (line.new.items ≡ line.old.items
+        ++ (codes "interface " ++ printed home.now
+        ++ codes " {"
+        ++ joined (codes "; ") (map (refer names.now) embedded.now
+        ++ map method_text (map (described_method (refer names.now)) (map method_shape methods.now))) ++ codes "}")) }
 {
     line.extend_from_slice(b"interface ")?;
     put_printed(line, home)?;
@@ -156,7 +168,9 @@ fn put_items(
 ) -> Result<(), AllocError>
     requires embedded { AllBelow (node_count names.now) embedded.now }
     requires methods { AllBelow (node_count names.now) (flat_map method_types (map method_shape methods.now)) }
-    ensures { OnOk result (line.new.items ≡ line.old.items ++ joined (codes "; ") (map (refer names.now) embedded.now ++ map method_text (map (described_method (refer names.now)) (map method_shape methods.now)))) }
+    ensures { OnOk result (line.new.items ≡ line.old.items
+        ++ joined (codes "; ") (map (refer names.now) embedded.now
+        ++ map method_text (map (described_method (refer names.now)) (map method_shape methods.now)))) }
 {
     put_types(line, b"; ", embedded, names)?;
     put_between(line, b"; ", embedded.len(), methods.len())?;
@@ -170,7 +184,9 @@ fn put_methods(
     names: &References<'_>,
 ) -> Result<(), AllocError>
     requires { AllBelow (node_count names.now) (flat_map method_types (map method_shape methods.now)) }
-    ensures { OnOk result (line.new.items ≡ line.old.items ++ joined (codes "; ") (map method_text (map (described_method (refer names.now)) (map method_shape methods.now)))) }
+    ensures { OnOk result (line.new.items ≡ line.old.items
+        ++ joined (codes "; ")
+        (map method_text (map (described_method (refer names.now)) (map method_shape methods.now)))) }
 {
     put_joined(line, methods, b"; ", names)
 }
@@ -211,7 +227,8 @@ fn put_instance(
 ) -> Result<(), AllocError>
     requires base { base < node_count names.now }
     requires args { AllBelow (node_count names.now) args.now }
-    ensures { OnOk result (line.new.items ≡ line.old.items ++ (refer names.now base ++ bracketed (map (refer names.now) args.now))) }
+    ensures { OnOk result (line.new.items ≡ line.old.items
+        ++ (refer names.now base ++ bracketed (map (refer names.now) args.now))) }
 {
     put_reference(line, base, names)?;
     put_bracketed(line, args, names)
@@ -220,7 +237,8 @@ fn put_instance(
 #[tactic(auto, using(crate::proofs::Fused::terms_types, crate::proofs::Fused::terms_lines))]
 fn put_union(line: &mut Vec<u8>, terms: &[Term], names: &References<'_>) -> Result<(), AllocError>
     requires { AllBelow (node_count names.now) (flat_map term_types (map term_shape terms.now)) }
-    ensures { OnOk result (line.new.items ≡ line.old.items ++ joined (codes " | ") (map term_text (map (described_term (refer names.now)) (map term_shape terms.now)))) }
+    ensures { OnOk result (line.new.items ≡ line.old.items
+        ++ joined (codes " | ") (map term_text (map (described_term (refer names.now)) (map term_shape terms.now)))) }
 {
     put_joined(line, terms, b" | ", names)
 }

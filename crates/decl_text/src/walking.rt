@@ -24,7 +24,8 @@ pub fn number_types(
     types: &mut Vec<NodeId>,
 ) -> Result<Numbering, AllocError>
     requires there { AllBelow (length arena.now.nodes) types.old.items }
-    ensures numbers { IfOk result (λ numbering. numbers_at arena.now.nodes numbering ≡ number_all (map (tree arena.now.nodes) types.old.items)) }
+    ensures numbers { IfOk result (λ numbering.
+        numbers_at arena.now.nodes numbering ≡ number_all (map (tree arena.now.nodes) types.old.items)) }
     ensures stands { IfOk result (λ numbering. StandsIn arena.now.nodes numbering) }
 {
     let mut numbering = Numbering::new(alloc);
@@ -47,7 +48,9 @@ fn step(
 ) -> Result<(), AllocError>
     requires there { task_node task < length arena.now.nodes }
     requires stands { StandsIn arena.now.nodes numbering.old }
-    ensures steps { OnOk result (Steps arena.now.nodes task tasks.old.items (numbers_at arena.now.nodes numbering.old) tasks.new.items (numbers_at arena.now.nodes numbering.new)) }
+    ensures steps { OnOk result
+        (Steps arena.now.nodes task tasks.old.items (numbers_at arena.now.nodes numbering.old) tasks.new.items
+        (numbers_at arena.now.nodes numbering.new)) }
     ensures stands { OnOk result (StandsIn arena.now.nodes numbering.new) }
 {
     match task {
@@ -119,7 +122,8 @@ fn push_items(
     methods: &[IMethod],
     into: &mut Vec<NodeId>,
 ) -> Result<(), AllocError>
-    ensures { OnOk result (into.new.items ≡ into.old.items ++ (embedded.now ++ flat_map method_types (map method_shape methods.now))) }
+    ensures { OnOk result (into.new.items ≡ into.old.items
+        ++ (embedded.now ++ flat_map method_types (map method_shape methods.now))) }
 {
     into.extend_from_slice(embedded)?;
     push_all(methods, into)

@@ -14,7 +14,7 @@ use Rattle.wire_bytes.specs.declared.fault.ByteFault.{ByteFault}
 use Rattle.name_index.specs.FullFile.{FullFile}
 use Rattle.name_index.specs.Envelope.{Envelope}
 use Rattle.name_index.specs.FirstBreach.{FirstBreach}
-use Rattle.name_index.proofs.Files.{file_again}
+use Rattle.name_index.proofs.FullFileLemmas.{file_again}
 use Rattle.exportdata_cmd.specs.Printed.{Line, line}
 use Rattle.exportdata_cmd.specs.ErrorLines.{line_of, status_of, missing_text, damaged_text, no_memory_text}
 use Rattle.exportdata_cmd.specs.Putting.{SinkState, WroteSome, Reports}

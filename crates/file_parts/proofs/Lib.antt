@@ -1,1 +1,1 @@
-pub mod PathNames
+pub mod PathLemmas

@@ -59,14 +59,17 @@ impl<'a> Parts<'a> {
         &self.file[start..start + self.body_len as usize]
     }
 
-    /// The package path for which the text at an offset of the string section stands. The empty text stands for the file's
-    /// own path, where the index has the empty text; any other for itself, where it is a path of the index. The path is
-    /// found by halves, and no memory is taken.
+    /// The package path for which the text at an offset of the string section stands. The empty text stands for the
+    /// file's own path, where the index has the empty text; any other for itself, where it is a path of the index. The
+    /// path is found by halves, and no memory is taken.
     pub fn path_at(&self, offset: u64) -> Option<&'a [u8]>
         requires { IsOfFile self.now }
-        ensures found { IfSome result (λ path. IsPathAt (strings_of self.now) self.now.own.now (paths_of self.now) offset path.now) }
-        ensures none { IfNone result ((path : List ℕ) → IsPathAt (strings_of self.now) self.now.own.now (paths_of self.now) offset path → ⊥) }
-        ensures exact { option_copied result ≡ path_in (strings_of self.now) self.now.own.now (paths_of self.now) offset }
+        ensures found { IfSome result (λ path.
+            IsPathAt (strings_of self.now) self.now.own.now (paths_of self.now) offset path.now) }
+        ensures none { IfNone result ((path : List ℕ)
+            → IsPathAt (strings_of self.now) self.now.own.now (paths_of self.now) offset path → ⊥) }
+        ensures exact { option_copied result
+            ≡ path_in (strings_of self.now) self.now.own.now (paths_of self.now) offset }
     {
         path_at(self.strings(), self.own, self.paths, offset)
     }
@@ -81,7 +84,8 @@ fn path_at<'a>(
     requires inside { AllByRecursion (λ s. IsInside strings.now s) paths.now }
     requires rising { Rise (texts_of strings.now paths.now) }
     ensures found { IfSome result (λ path. IsPathAt strings.now own.now (texts_of strings.now paths.now) offset path.now) }
-    ensures none { IfNone result ((path : List ℕ) → IsPathAt strings.now own.now (texts_of strings.now paths.now) offset path → ⊥) }
+    ensures none { IfNone result ((path : List ℕ)
+        → IsPathAt strings.now own.now (texts_of strings.now paths.now) offset path → ⊥) }
     ensures exact { option_copied result ≡ path_in strings.now own.now (texts_of strings.now paths.now) offset }
 {
     path_for(strings, own, paths, text_at(strings, offset)?)
@@ -108,7 +112,9 @@ fn path_for<'a>(
 fn is_path(strings: &[u8], own: &[u8], paths: &[TextSpan], text: &[u8]) -> bool
     requires inside { AllByRecursion (λ s. IsInside strings.now s) paths.now }
     requires rising { Rise (texts_of strings.now paths.now) }
-    ensures { result ≡ (is_among (texts_of strings.now paths.now) text.now || (pointwise nat_eq text.now own.now && is_among (texts_of strings.now paths.now) [])) }
+    ensures { result
+        ≡ (is_among (texts_of strings.now paths.now) text.now
+        || (pointwise nat_eq text.now own.now && is_among (texts_of strings.now paths.now) [])) }
 {
     is_listed(strings, paths, text) || text == own && is_listed(strings, paths, &[])
 }

@@ -3,7 +3,8 @@ use Rattle.std.specs.Prelude.{ℕ, Bool, true, false, not, ◌==◌, ◌||◌, n
 use Rattle.std.specs.Char.{digit_value}
 use Rattle.unicode.specs.GeneralCategory.{general_category}
 use Rattle.ucd_category.specs.declared.GeneralCategory.{GeneralCategory}
-use Rattle.ucd_category.specs.declared.GeneralCategory.TheVariants.{UppercaseLetter, LowercaseLetter, TitlecaseLetter, ModifierLetter, OtherLetter, DecimalNumber}
+use Rattle.ucd_category.specs.declared.GeneralCategory.TheVariants.{UppercaseLetter, LowercaseLetter, TitlecaseLetter}
+use Rattle.ucd_category.specs.declared.GeneralCategory.TheVariants.{ModifierLetter, OtherLetter, DecimalNumber}
 use Rattle.go_lexer.specs.Characters.{underscore, line_feed, back_quote}
 use Rattle.go_lexer.specs.declared.classes.Class.{Class}
 use Rattle.go_lexer.specs.declared.classes.Class.TheVariants.{Name, Line, Raw, Digits, Hexadecimal}

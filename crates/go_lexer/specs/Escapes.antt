@@ -1,5 +1,6 @@
 -- Escapes in rune and string literals (the language specification's section Rune literals).
-use Rattle.std.specs.Prelude.{ℕ, zero, suc, Bool, ◌+◌, ◌*◌, ◌==◌, ◌||◌, ◌&&◌, nat_lt, nat_le, List, [], ◌∷◌, if◌then◌else◌, codes}
+use Rattle.std.specs.Prelude.{ℕ, zero, suc, Bool, ◌+◌, ◌*◌, ◌==◌, ◌||◌, ◌&&◌, nat_lt, nat_le, List, [], ◌∷◌}
+use Rattle.std.specs.Prelude.{if◌then◌else◌, codes}
 use Rattle.std.specs.List.{list_any}
 use Rattle.std.specs.Str.{chars}
 use Rattle.std.specs.Char.{digit_value}
@@ -18,7 +19,8 @@ pub data Digits : Type 0 where
 abbrev pub digits : ℕ → ℕ → ℕ → List ℕ → Digits
 digits base zero value cs = number value cs
 digits base (suc n) value [] = short
-digits base (suc n) value (c ∷ cs) = if nat_lt (digit_value c) base then digits base n (value * base + digit_value c) cs else broken
+digits base (suc n) value (c ∷ cs) = if nat_lt (digit_value c) base
+    then digits base n (value * base + digit_value c) cs else broken
 
 -- What stands after a backslash: an escape and what follows it, none, or one inside which the text ends.
 pub data Escape : Type 0 where

@@ -2,7 +2,8 @@
 use Rattle.std.specs.Prelude.{ℕ, Bool, false, ◌==◌, ◌||◌, ◌&&◌, List, [], ◌∷◌, if◌then◌else◌, Option, Some, None}
 use Rattle.go_lexer.specs.declared.token_kinds.TokenKind.TheVariants.{Mark}
 use Rattle.go_lexer.specs.declared.pieces.Breach.TheVariants.{BadChar}
-use Rattle.go_lexer.specs.Characters.{line_feed, double_quote, single_quote, back_quote, plus, minus, star, slash, point, split}
+use Rattle.go_lexer.specs.Characters.{line_feed, double_quote, single_quote, back_quote, plus, minus, star, slash}
+use Rattle.go_lexer.specs.Characters.{point, split}
 use Rattle.go_lexer.specs.Classes.{is_letter, is_space, is_decimal}
 use Rattle.go_lexer.specs.Comments.{line_comment, general_comment}
 use Rattle.go_lexer.specs.Literals.{string_literal, raw_literal, rune_literal}
@@ -24,11 +25,13 @@ mark_one start a rest = if is_single a then token Mark (single_owes a) rest else
 
 abbrev pub mark_two : List ℕ → ℕ → List ℕ → Option (ℕ × List ℕ) → Piece
 mark_two start a after None = mark_one start a after
-mark_two start a after (Some (b, rest)) = if is_pair a b then token Mark (a == b && pair_owes b) rest else mark_one start a after
+mark_two start a after (Some (b, rest)) = if is_pair a b then token Mark (a == b && pair_owes b) rest
+    else mark_one start a after
 
 abbrev pub mark_three : List ℕ → ℕ → List ℕ → ℕ → List ℕ → Option (ℕ × List ℕ) → Piece
 mark_three start a after b behind None = mark_two start a after (Some (b, behind))
-mark_three start a after b behind (Some (c, rest)) = if is_triple a b c then token Mark false rest else mark_two start a after (Some (b, behind))
+mark_three start a after b behind (Some (c, rest)) = if is_triple a b c then token Mark false rest
+    else mark_two start a after (Some (b, behind))
 
 abbrev pub mark_after : List ℕ → ℕ → List ℕ → Option (ℕ × List ℕ) → Piece
 mark_after start a after None = mark_two start a after None
@@ -43,7 +46,8 @@ after_point start a after (Some (b, behind)) = if is_decimal b then number start
 
 abbrev pub after_slash : List ℕ → ℕ → List ℕ → Option (ℕ × List ℕ) → Piece
 after_slash start a after None = mark start a after
-after_slash start a after (Some (b, behind)) = if b == slash then line_comment behind else (if b == star then general_comment start behind else mark start a after)
+after_slash start a after (Some (b, behind)) = if b == slash then line_comment behind
+    else (if b == star then general_comment start behind else mark start a after)
 
 -- the piece at start, whose first character is a
 abbrev pub piece_by : List ℕ → ℕ → List ℕ → Piece

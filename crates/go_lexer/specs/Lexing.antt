@@ -1,12 +1,14 @@
 -- The tokens of a source, or its first fault, by reading from the front.
-use Rattle.std.specs.Prelude.{◌≡◌, ℕ, zero, suc, Bool, ◌-◌, List, [], ◌∷◌, ◌++◌, length, if◌then◌else◌, Option, Some, None, Result, Ok, Err}
+use Rattle.std.specs.Prelude.{◌≡◌, ℕ, zero, suc, Bool, ◌-◌, List, [], ◌∷◌, ◌++◌, length, if◌then◌else◌, Option, Some}
+use Rattle.std.specs.Prelude.{None, Result, Ok, Err}
 use Rattle.std.specs.Str.{chars, encode_utf8_all}
 use Rattle.go_lexer.specs.declared.token_kinds.Token.{Token}
 use Rattle.go_lexer.specs.declared.token_kinds.TokenKind.TheVariants.{Inserted}
 use Rattle.go_lexer.specs.declared.token_kinds.LexFault.{LexFault}
 use Rattle.go_lexer.specs.declared.token_kinds.LexFault.TheVariants as fault
 use Rattle.go_lexer.specs.declared.pieces.Breach.{Breach}
-use Rattle.go_lexer.specs.declared.pieces.Breach.TheVariants.{BadChar, OpenString, BadEscape, BadNumber, CutString, CutComment}
+use Rattle.go_lexer.specs.declared.pieces.Breach.TheVariants.{BadChar, OpenString, BadEscape, BadNumber, CutString}
+use Rattle.go_lexer.specs.declared.pieces.Breach.TheVariants.{CutComment}
 use Rattle.go_lexer.specs.declared.source.Ending.{Ending}
 use Rattle.go_lexer.specs.declared.source.Ending.TheVariants.{File, BadUtf8, Nul}
 use Rattle.go_lexer.specs.Pieces.{Piece, blank, token, stop}
@@ -17,8 +19,8 @@ use Rattle.go_lexer.specs.Source.{text_of, ending_of, after_mark}
 abbrev pub place : ℕ → List ℕ → ℕ
 place total rest = total - length (encode_utf8_all rest)
 
--- what is met where the text ends inside a literal or comment that begins at this place: the fault that ends the text, or else that
--- it isn't closed
+-- what is met where the text ends inside a literal or comment that begins at this place: the fault that ends the text,
+-- or else that it isn't closed
 abbrev pub cut_string : Ending → ℕ → ℕ → LexFault
 cut_string File total at = fault.OpenString at
 cut_string BadUtf8 total at = fault.BadUtf8 total
@@ -64,10 +66,13 @@ abbrev pub owes_at : Bool → ℕ → Option ℕ
 owes_at owes end = if owes then Some end else None
 
 -- a piece at the front of these characters, and what more makes of the rest
-abbrev pub lexed_by : Ending → ℕ → (Option ℕ → List ℕ → Result (List Token) LexFault) → Option ℕ → List ℕ → Piece → Result (List Token) LexFault
-lexed_by ending total more owed cs (blank breaks rest) = with_front (paid_if breaks owed) (more (owed_after breaks owed) rest)
+abbrev pub lexed_by : Ending → ℕ → (Option ℕ → List ℕ → Result (List Token) LexFault) → Option ℕ → List ℕ → Piece
+    → Result (List Token) LexFault
+lexed_by ending total more owed cs (blank breaks rest) = with_front (paid_if breaks owed)
+    (more (owed_after breaks owed) rest)
 lexed_by ending total more owed cs (token kind owes rest) =
-    with_front (record { kind = kind; start = place total cs; end = place total rest } ∷ []) (more (owes_at owes (place total rest)) rest)
+    with_front (record { kind = kind; start = place total cs; end = place total rest } ∷ [])
+    (more (owes_at owes (place total rest)) rest)
 lexed_by ending total more owed cs (stop breach rest) = Err (fault_at ending total breach (place total rest))
 
 -- The tokens of up to n pieces. Each takes a character, so a text of n characters has at most n.

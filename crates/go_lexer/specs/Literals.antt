@@ -69,7 +69,8 @@ raw_literal start inside = raw_end start (split (after_while (in_class Raw) insi
 -- a rune literal after its character
 abbrev pub rune_end : List ℕ → List ℕ → Piece
 rune_end start [] = stop CutString start
-rune_end start (c ∷ cs) = if c == single_quote then token Rune true cs else (if c == line_feed then stop OpenString start else stop BadChar start)
+rune_end start (c ∷ cs) = if c == single_quote then token Rune true cs
+    else (if c == line_feed then stop OpenString start else stop BadChar start)
 
 abbrev pub rune_escape : List ℕ → List ℕ → Escape → Piece
 rune_escape start at (whole rest) = rune_end start rest

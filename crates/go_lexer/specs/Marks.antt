@@ -8,8 +8,10 @@ single_marks = codes "+-*/%&|^<>=!()[]{},;.:~"
 
 abbrev pub pair_marks : List (List ℕ)
 pair_marks =
-    codes "<<" ∷ codes ">>" ∷ codes "&^" ∷ codes "+=" ∷ codes "-=" ∷ codes "*=" ∷ codes "/=" ∷ codes "%=" ∷ codes "&=" ∷ codes "|=" ∷ codes "^="
-    ∷ codes "&&" ∷ codes "||" ∷ codes "<-" ∷ codes "++" ∷ codes "--" ∷ codes "==" ∷ codes "!=" ∷ codes "<=" ∷ codes ">=" ∷ codes ":=" ∷ []
+    codes "<<" ∷ codes ">>" ∷ codes "&^" ∷ codes "+=" ∷ codes "-=" ∷ codes "*=" ∷ codes "/=" ∷ codes "%=" ∷ codes "&="
+    ∷ codes "|=" ∷ codes "^="
+    ∷ codes "&&" ∷ codes "||" ∷ codes "<-" ∷ codes "++" ∷ codes "--" ∷ codes "==" ∷ codes "!=" ∷ codes "<="
+    ∷ codes ">=" ∷ codes ":=" ∷ []
 
 abbrev pub triple_marks : List (List ℕ)
 triple_marks = codes "<<=" ∷ codes ">>=" ∷ codes "&^=" ∷ codes "..." ∷ []

@@ -1,6 +1,7 @@
--- What looks like a number, and whether it is one (the language specification's sections Integer literals, Floating-point literals and
--- Imaginary literals).
-use Rattle.std.specs.Prelude.{ℕ, Bool, true, false, not, ◌==◌, ◌||◌, ◌&&◌, nat_lt, List, [], ◌∷◌, if◌then◌else◌, Option, Some, None, is_some, option_map}
+-- What looks like a number, and whether it is one (the language specification's sections Integer literals,
+-- Floating-point literals and Imaginary literals).
+use Rattle.std.specs.Prelude.{ℕ, Bool, true, false, not, ◌==◌, ◌||◌, ◌&&◌, nat_lt, List, [], ◌∷◌, if◌then◌else◌, Option}
+use Rattle.std.specs.Prelude.{Some, None, is_some, option_map}
 use Rattle.std.specs.Str.{chars}
 use Rattle.std.specs.Char.{digit_value}
 use Rattle.go_lexer.specs.declared.token_kinds.TokenKind.{TokenKind}
@@ -12,7 +13,8 @@ use Rattle.go_lexer.specs.declared.numbers.Base.{Base}
 use Rattle.go_lexer.specs.declared.numbers.Base.TheVariants.{Decimal, Binary, Octal, Hexadecimal}
 use Rattle.go_lexer.specs.declared.numbers.Mantissa.{Mantissa as ReadMantissa}
 use Rattle.go_lexer.specs.declared.numbers.Exponent.{Exponent as ReadExponent}
-use Rattle.go_lexer.specs.Characters.{plus, minus, point, digit_zero, letter_i, underscore, split, strip, front_while, after_while}
+use Rattle.go_lexer.specs.Characters.{plus, minus, point, digit_zero, letter_i, underscore, split, strip, front_while}
+use Rattle.go_lexer.specs.Characters.{after_while}
 use Rattle.go_lexer.specs.Classes.{in_class}
 use Rattle.go_lexer.specs.Pieces.{Piece, token, stop}
 
@@ -57,10 +59,12 @@ pub record Mantissa : Type 0 where
 
 abbrev pub fraction_after : Base → List ℕ → List ℕ → Option (List ℕ) → Mantissa
 fraction_after base whole after None = record { base = base; whole = whole; fraction = None; rest = after }
-fraction_after base whole after (Some more) = record { base = base; whole = whole; fraction = Some (front_while (run base) more); rest = after_while (run base) more }
+fraction_after base whole after (Some more) = record
+    { base = base; whole = whole; fraction = Some (front_while (run base) more); rest = after_while (run base) more }
 
 abbrev pub mantissa_in : Base × List ℕ → Mantissa
-mantissa_in b = fraction_after b.0 (front_while (run b.0) b.1) (after_while (run b.0) b.1) (strip point (after_while (run b.0) b.1))
+mantissa_in b = fraction_after b.0 (front_while (run b.0) b.1) (after_while (run b.0) b.1)
+    (strip point (after_while (run b.0) b.1))
 
 abbrev pub mantissa : List ℕ → Mantissa
 mantissa text = mantissa_in (base_of text)
@@ -89,13 +93,20 @@ after_sign (c ∷ cs) = if c == plus || c == minus then cs else (c ∷ cs)
 abbrev pub exponent : Base → List ℕ → Option Exponent
 exponent base [] = None
 exponent base (c ∷ cs) =
-    if is_exponent_letter base c then Some (record { letter = c; digits = front_while (in_class Digits) (after_sign cs); rest = after_while (in_class Digits) (after_sign cs) })
+    if is_exponent_letter base c
+    then Some (record {
+      letter = c;
+      digits = front_while (in_class Digits) (after_sign cs);
+      rest = after_while (in_class Digits)
+          (after_sign cs);
+    })
     else None
 
 -- digits of a base, with single `_` between them
 abbrev pub digits_after : ℕ → Bool → List ℕ → Bool
 digits_after radix after [] = after
-digits_after radix after (c ∷ cs) = if c == underscore then after && digits_after radix false cs else nat_lt (digit_value c) radix && digits_after radix true cs
+digits_after radix after (c ∷ cs) = if c == underscore then after && digits_after radix false cs
+    else nat_lt (digit_value c) radix && digits_after radix true cs
 
 abbrev pub is_digits : ℕ → List ℕ → Bool
 is_digits radix cs = digits_after radix false cs
@@ -115,7 +126,8 @@ leads_with_zero (c ∷ cs) = c == digit_zero
 
 -- an integer literal, or with i its imaginary form, whose digits after the prefix these are
 abbrev pub is_whole : Base → Bool → List ℕ → Bool
-is_whole Decimal imaginary digits = if leads_with_zero digits && not imaginary then is_digits 8 digits else is_digits 10 digits
+is_whole Decimal imaginary digits = if leads_with_zero digits && not imaginary then is_digits 8 digits
+    else is_digits 10 digits
 is_whole Binary imaginary digits = is_led_digits 2 digits
 is_whole Octal imaginary digits = is_led_digits 8 digits
 is_whole Hexadecimal imaginary digits = is_led_digits 16 digits
@@ -139,7 +151,8 @@ is_unscaled imaginary _ whole (Some fraction) = false
 
 -- with an exponent
 abbrev pub is_scaled : Base → List ℕ → Option (List ℕ) → ℕ → List ℕ → Bool
-is_scaled Decimal whole fraction letter digits = is_decimal_letter letter && is_digits 10 digits && is_decimal_mantissa whole fraction
+is_scaled Decimal whole fraction letter digits = is_decimal_letter letter && is_digits 10 digits
+    && is_decimal_mantissa whole fraction
 is_scaled Hexadecimal whole fraction letter digits = is_digits 10 digits && is_hexadecimal_mantissa whole fraction
 is_scaled _ whole fraction letter digits = false
 
@@ -159,7 +172,8 @@ number_kind (Some digits) scaled = Floating
 
 -- a number that this character does or doesn't make imaginary, where it is one
 abbrev pub number_piece : List ℕ → Mantissa → Option Exponent → Option (List ℕ) → Piece
-number_piece start m e None = if is_number false m e then token (number_kind m.fraction (is_some e)) true (after_exponent m e) else stop BadNumber start
+number_piece start m e None = if is_number false m e
+    then token (number_kind m.fraction (is_some e)) true (after_exponent m e) else stop BadNumber start
 number_piece start m e (Some rest) = if is_number true m e then token Imaginary true rest else stop BadNumber start
 
 abbrev pub number_by : List ℕ → Mantissa → Option Exponent → Piece
@@ -171,7 +185,8 @@ number text = number_by text (mantissa text) (exponent (mantissa text).base (man
 
 -- what the program reads, by the characters of its text
 abbrev pub mantissa_of : ReadMantissa → Mantissa
-mantissa_of m = record { base = m.base; whole = m.whole.now; fraction = option_map (λ f. f.now) m.fraction; rest = chars m.rest.now }
+mantissa_of m = record
+    { base = m.base; whole = m.whole.now; fraction = option_map (λ f. f.now) m.fraction; rest = chars m.rest.now }
 
 abbrev pub exponent_of : ReadExponent → Exponent
 exponent_of e = record { letter = e.letter; digits = e.digits.now; rest = chars e.rest.now }

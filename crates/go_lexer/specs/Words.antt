@@ -4,7 +4,10 @@ use Rattle.std.specs.Cmp.Lexicographic.{pointwise}
 use Rattle.std.specs.Str.{encode_utf8_all}
 use Rattle.go_lexer.specs.declared.token_kinds.TokenKind.TheVariants.{Ident, Word}
 use Rattle.code_tables.specs.declared.words.Keyword.{Keyword}
-use Rattle.code_tables.specs.declared.words.Keyword.TheVariants.{Break, Case, Chan, Const, Continue, Default, Defer, Else, Fallthrough, For, Func, Go, Goto, If, Import, Interface, Map, Package, Range, Return, Select, Struct, Switch, «Type», Var}
+use Rattle.code_tables.specs.declared.words.Keyword.TheVariants.{Break, Case, Chan, Const, Continue, Default, Defer}
+use Rattle.code_tables.specs.declared.words.Keyword.TheVariants.{Else, Fallthrough, For, Func, Go, Goto, If, Import}
+use Rattle.code_tables.specs.declared.words.Keyword.TheVariants.{Interface, Map, Package, Range, Return, Select, Struct}
+use Rattle.code_tables.specs.declared.words.Keyword.TheVariants.{Switch, «Type», Var}
 use Rattle.go_lexer.specs.Characters.{front_while, after_while}
 use Rattle.go_lexer.specs.Classes.{continues_name}
 use Rattle.go_lexer.specs.Pieces.{Piece, token}

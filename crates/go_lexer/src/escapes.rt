@@ -1,6 +1,7 @@
 ghost use Rattle.std.specs.Prelude.{◌≡◌, ◌≤◌, ◌<◌, ◌^◌, ℕ};
 ghost use Rattle.std.specs.Str.{chars};
-ghost use Rattle.go_lexer.specs.Escapes.{digits, digits_of, is_code_point, is_simple, byte_escape, code_point_escape, escape, escape_of};
+ghost use Rattle.go_lexer.specs.Escapes.{digits, digits_of, is_code_point, is_simple, byte_escape, code_point_escape};
+ghost use Rattle.go_lexer.specs.Escapes.{escape, escape_of};
 
 use crate::characters::split_char;
 

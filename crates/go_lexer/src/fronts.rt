@@ -1,6 +1,7 @@
 ghost use Rattle.std.specs.Prelude.{◌≡◌};
 ghost use Rattle.std.specs.Str.{chars};
-ghost use Rattle.go_lexer.specs.Front.{single_owes, pair_owes, mark_one, mark_two, mark, after_point, after_slash, piece_by, piece};
+ghost use Rattle.go_lexer.specs.Front.{single_owes, pair_owes, mark_one, mark_two, mark, after_point, after_slash};
+ghost use Rattle.go_lexer.specs.Front.{piece_by, piece};
 ghost use Rattle.go_lexer.specs.Characters.{split};
 ghost use Rattle.go_lexer.specs.Pieces.{piece_of};
 

@@ -1,6 +1,7 @@
 ghost use Rattle.std.specs.Prelude.{◌≡◌, ◌≤◌, ◌++◌, ◌∷◌, ◌⊎◌, ℕ, List, [], length, OnOk, IfOk, IfErr};
 ghost use Rattle.std.specs.Str.{chars};
-ghost use Rattle.go_lexer.specs.Lexing.{cut_string, cut_comment, fault_at, place, paid, paid_if, owed_after, owes_at, finish, with_front, lexed_text, lexed_source, LexesAs};
+ghost use Rattle.go_lexer.specs.Lexing.{cut_string, cut_comment, fault_at, place, paid, paid_if, owed_after, owes_at};
+ghost use Rattle.go_lexer.specs.Lexing.{finish, with_front, lexed_text, lexed_source, LexesAs};
 ghost use Rattle.go_lexer.specs.TokenGrammar.{IsLexed, IsFirstFault};
 ghost use Rattle.go_lexer.specs.declared.token_kinds.Token.{Token};
 ghost use Rattle.go_lexer.specs.declared.token_kinds.LexFault.{LexFault};
@@ -190,8 +191,11 @@ pub fn tokens(alloc: Global, src: &[u8]) -> Result<Vec<Token>, LexFault>
 
 /// Each source has exactly one of tokens and first fault, and one list of tokens at most.
 pub fn one_reading()
-    ensures tokens { (source : List ℕ) (items others : List Token) → IsLexed source items → IsLexed source others → items ≡ others }
-    ensures apart { (source : List ℕ) (items : List Token) (f : LexFault) → IsLexed source items → IsFirstFault source f → ⊥ }
+    ensures tokens { (source : List ℕ) (items others : List Token) → IsLexed source items → IsLexed source others
+        → items ≡ others }
+    ensures apart { (source : List ℕ) (items : List Token) (f : LexFault) → IsLexed source items
+        → IsFirstFault source f → ⊥ }
     ensures fault { (source : List ℕ) (f g : LexFault) → IsFirstFault source f → IsFirstFault source g → f ≡ g }
-    ensures some { (source : List ℕ) → ((items : List Token) × IsLexed source items) ⊎ ((f : LexFault) × IsFirstFault source f) }
+    ensures some { (source : List ℕ) → ((items : List Token) × IsLexed source items)
+        ⊎ ((f : LexFault) × IsFirstFault source f) }
 {}

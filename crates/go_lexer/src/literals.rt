@@ -1,7 +1,8 @@
 ghost use Rattle.std.specs.Prelude.{◌≡◌, length};
 ghost use Rattle.std.specs.Str.{chars};
 ghost use Rattle.go_lexer.specs.Escapes.{escape_of};
-ghost use Rattle.go_lexer.specs.Literals.{closing, closing_of, element, element_of, escaped, string_literal, raw_literal, rune_end, rune_escape, rune_literal};
+ghost use Rattle.go_lexer.specs.Literals.{closing, closing_of, element, element_of, escaped, string_literal};
+ghost use Rattle.go_lexer.specs.Literals.{raw_literal, rune_end, rune_escape, rune_literal};
 ghost use Rattle.go_lexer.specs.Pieces.{piece_of};
 
 use crate::characters::split_char;

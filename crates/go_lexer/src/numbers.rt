@@ -2,7 +2,10 @@ ghost use Rattle.std.specs.Prelude.{◌≡◌, ◌≤◌, IsTrue, option_map, is
 ghost use Rattle.std.specs.Str.{chars};
 ghost use Rattle.go_lexer.specs.Characters.{front_while, after_while};
 ghost use Rattle.go_lexer.specs.Classes.{in_class, is_digit_class};
-ghost use Rattle.go_lexer.specs.Numbers.{prefix_base, base_of, digits_class, mantissa, mantissa_of, exponent, exponent_of, is_exponent_letter, after_sign, is_digits, is_led_digits, is_digits_or_none, is_whole, is_decimal_mantissa, is_hexadecimal_mantissa, is_unscaled, is_scaled, is_number, after_exponent, number_kind, number};
+ghost use Rattle.go_lexer.specs.Numbers.{prefix_base, base_of, digits_class, mantissa, mantissa_of, exponent};
+ghost use Rattle.go_lexer.specs.Numbers.{exponent_of, is_exponent_letter, after_sign, is_digits, is_led_digits};
+ghost use Rattle.go_lexer.specs.Numbers.{is_digits_or_none, is_whole, is_decimal_mantissa, is_hexadecimal_mantissa};
+ghost use Rattle.go_lexer.specs.Numbers.{is_unscaled, is_scaled, is_number, after_exponent, number_kind, number};
 ghost use Rattle.go_lexer.specs.NumberGrammar.{IsNumber, IsNumberAt};
 ghost use Rattle.go_lexer.specs.declared.token_kinds.TokenKind.{TokenKind};
 ghost use Rattle.go_lexer.specs.Pieces.{piece_of, token};
@@ -226,7 +229,9 @@ fn is_hexadecimal_mantissa(whole: &[u8], fraction: Option<&[u8]>) -> bool
 
 /// Whether this is a number with no exponent.
 fn is_unscaled(imaginary: bool, mantissa: Mantissa<'_>) -> bool
-    ensures { result ≡ is_unscaled imaginary mantissa.entry.base mantissa.entry.whole.now (option_map (λ f. f.now) mantissa.entry.fraction) }
+    ensures { result
+        ≡ is_unscaled imaginary mantissa.entry.base mantissa.entry.whole.now
+        (option_map (λ f. f.now) mantissa.entry.fraction) }
 {
     match mantissa.base {
         Base::Decimal if mantissa.fraction.is_some() => {
@@ -238,7 +243,9 @@ fn is_unscaled(imaginary: bool, mantissa: Mantissa<'_>) -> bool
 
 /// Whether this is a number with an exponent.
 fn is_scaled(mantissa: Mantissa<'_>, exponent: Exponent<'_>) -> bool
-    ensures { result ≡ is_scaled mantissa.entry.base mantissa.entry.whole.now (option_map (λ f. f.now) mantissa.entry.fraction) exponent.entry.letter exponent.entry.digits.now }
+    ensures { result
+        ≡ is_scaled mantissa.entry.base mantissa.entry.whole.now (option_map (λ f. f.now) mantissa.entry.fraction)
+        exponent.entry.letter exponent.entry.digits.now }
 {
     match mantissa.base {
         Base::Decimal => {
@@ -305,6 +312,7 @@ pub(crate) fn read_number(text: &str) -> Piece<'_>
 /// What is read as a number is a number literal of the grammar, and a literal with nothing after it is read
 /// as the number that it is.
 pub fn number_literals()
-    ensures taken { (text rest : List ℕ) (kind : TokenKind) (owes : Bool) → number text ≡ token kind owes rest → IsNumberAt kind text rest }
+    ensures taken { (text rest : List ℕ) (kind : TokenKind) (owes : Bool) → number text ≡ token kind owes rest
+        → IsNumberAt kind text rest }
     ensures read { (text : List ℕ) (kind : TokenKind) → IsNumber kind text → number text ≡ token kind true [] }
 {}

@@ -23,14 +23,24 @@ macro_rules! first_equal {
 fn early_keyword(word: &[u8]) -> Option<Keyword>
     ensures { result ≡ early_keyword word.now }
 {
-    first_equal!(word; "break" => Break, "case" => Case, "chan" => Chan, "const" => Const, "continue" => Continue, "default" => Default, "defer" => Defer, "else" => Else, "fallthrough" => Fallthrough, "for" => For, "func" => Func, "go" => Go, "goto" => Goto)
+    first_equal!(
+        word;
+        "break" => Break, "case" => Case, "chan" => Chan, "const" => Const, "continue" => Continue,
+        "default" => Default, "defer" => Defer, "else" => Else, "fallthrough" => Fallthrough, "for" => For,
+        "func" => Func, "go" => Go, "goto" => Goto
+    )
 }
 
 /// The keyword that has these bytes, from `if` to `var`.
 fn late_keyword(word: &[u8]) -> Option<Keyword>
     ensures { result ≡ late_keyword word.now }
 {
-    first_equal!(word; "if" => If, "import" => Import, "interface" => Interface, "map" => Map, "package" => Package, "range" => Range, "return" => Return, "select" => Select, "struct" => Struct, "switch" => Switch, "type" => Type, "var" => Var)
+    first_equal!(
+        word;
+        "if" => If, "import" => Import, "interface" => Interface, "map" => Map, "package" => Package,
+        "range" => Range, "return" => Return, "select" => Select, "struct" => Struct, "switch" => Switch,
+        "type" => Type, "var" => Var
+    )
 }
 
 /// The keyword that has these bytes.

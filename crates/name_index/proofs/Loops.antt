@@ -2,7 +2,7 @@
 use Rattle.std.proofs.Common.{◌≡◌, ℕ, ◌-◌, ◌<◌, List, Result}
 use Rattle.wire_bytes.specs.declared.fault.ByteFault.{ByteFault}
 use Rattle.wire_bytes.specs.Reading.{Spot, Fails, many}
-use Rattle.wire_bytes.proofs.Many.{with_front, fails}
+use Rattle.wire_bytes.proofs.ManyLemmas.{with_front, fails}
 use Rattle.wire_bytes.specs.declared.fault.ReadFault.{ReadFault}
 use Rattle.wire_bytes.specs.declared.fault.ReadFault.TheVariants as errors
 use Rattle.name_index.specs.Records.{fault_of}

@@ -13,7 +13,8 @@ TextOffset strings bytes text rest = (offset : ℕ) × BeginsWith bytes offset r
 
 -- a name, and an offset in the data section, which has this size
 abbrev pub IsEntry : List ℕ → ℕ → List ℕ → Entry → List ℕ → Type 0
-IsEntry strings size bytes e rest = (next : List ℕ) × TextOffset strings bytes e.name next × BeginsWith next e.offset rest × (e.offset < size)
+IsEntry strings size bytes e rest = (next : List ℕ) × TextOffset strings bytes e.name next
+    × BeginsWith next e.offset rest × (e.offset < size)
 
 -- path, name, a height of any value, and the count of the names and the names, which rise
 pub record IsPackage (strings : List ℕ) (size : ℕ) (bytes : List ℕ) (p : Package) (rest : List ℕ) : Type 0 where

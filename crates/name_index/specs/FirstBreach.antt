@@ -87,7 +87,13 @@ full_file_of own bytes = do
   body ← section_at header.0.body strings.1
   packages ← index_at own (content bytes strings.0) body.0.len body.1
   ended ← demand (length packages.1.left == 0) (faults.Trailing (place packages.1))
-  Ok (record { bytes = bytes; version = header.0.version; strings = strings.0; body = body.0; packages = named own packages.0 })
+  Ok (record {
+    bytes = bytes;
+    version = header.0.version;
+    strings = strings.0;
+    body = body.0;
+    packages = named own packages.0;
+  })
 
 -- the first breach of the form, in the order of the parts
 abbrev pub FirstBreach : List ℕ → List ℕ → ByteFault → Type 0

@@ -21,8 +21,8 @@ Opens (Ok image) file = image ≡ file
 Opens (Err errors.OutOfMemory) file = Unit {0}
 Opens (Err (errors.Bytes f)) file = ⊥
 
--- The parts of an open file: its own path is the one under which it is a full file, and each path that is spelled in its
--- index stands for the path of that package.
+-- The parts of an open file: its own path is the one under which it is a full file, and each path that is spelled in
+-- its index stands for the path of that package.
 pub record ArePartsOf (file : FullFile) (p : Parts) : Type 0 where
   pub bytes : p.file.now ≡ file.bytes
   pub strings_at : p.strings_at ≡ file.strings.at

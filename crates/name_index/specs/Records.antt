@@ -19,11 +19,13 @@ abbrev pub entry_of : List ℕ → EntryRecord → Entry
 entry_of strings e = record { name = text_of strings e.name; offset = e.offset }
 
 abbrev pub package_of : List ℕ → PackageRecord → Package
-package_of strings p = record { path = text_of strings p.path; name = text_of strings p.name; entries = map (entry_of strings) p.entries.items }
+package_of strings p = record
+    { path = text_of strings p.path; name = text_of strings p.name; entries = map (entry_of strings) p.entries.items }
 
 -- all its texts stand inside the string section
 abbrev pub IsPackageInside : List ℕ → PackageRecord → Type 0
-IsPackageInside strings p = IsInside strings p.path × IsInside strings p.name × AllByRecursion (λ e. IsInside strings e.name) p.entries.items
+IsPackageInside strings p = IsInside strings p.path × IsInside strings p.name
+    × AllByRecursion (λ e. IsInside strings e.name) p.entries.items
 
 -- how many names packages list
 abbrev pub name_count : List PackageRecord → ℕ
@@ -63,8 +65,8 @@ file_of own bytes l = record {
   packages = packages_of own (content bytes (section_of l.strings)) l.packages.items;
 }
 
--- The sections lie inside the file and the texts inside the string section. The paths stand apart as well, and the names are
--- numbered.
+-- The sections lie inside the file and the texts inside the string section. The paths stand apart as well, and the
+-- names are numbered.
 pub record IsLayout (bytes : List ℕ) (l : Layout) : Type 0 where
   pub strings_inside : l.strings.at + l.strings.len ≤ length bytes
   pub body_inside : l.body.at + l.body.len ≤ length bytes

@@ -1,6 +1,7 @@
 //! An open full file.
 
-ghost use Rattle.std.specs.Prelude.{◌≡◌, ◌<◌, ◌≤◌, ℕ, length, vec_len, option_map, slice_get, IfOk, IfErr, IfSome, IfNone};
+ghost use Rattle.std.specs.Prelude.{◌≡◌, ◌<◌, ◌≤◌, ℕ, length, vec_len, option_map, slice_get, IfOk, IfErr, IfSome};
+ghost use Rattle.std.specs.Prelude.{IfNone};
 ghost use Rattle.wire_bytes.specs.Reading.{GivesBy};
 ghost use Rattle.name_index.specs.FullFile.{FullFile, content, listed};
 ghost use Rattle.name_index.specs.Envelope.{Envelope};
@@ -38,8 +39,8 @@ impl Model for Image {
     ghost invariant = { λ i. IsOpen i.own.items i.bytes.items i.layout };
 }
 
-/// Opens a full file of the package path `path`, of format version 1 or 2. It goes over the index once, looks at no byte
-/// of the data section, and keeps the bytes.
+/// Opens a full file of the package path `path`, of format version 1 or 2. It goes over the index once, looks at no
+/// byte of the data section, and keeps the bytes.
 pub fn read_full_file(alloc: Global, bytes: Vec<u8>, path: &[u8]) -> Result<Image, ReadFault>
     requires { length bytes.items ≤ 16777216 }
     // The image is what stands in the bytes.
@@ -119,7 +120,8 @@ impl Image {
     /// Name `k` of the index, counted over all packages: its package's path, the name, and where its declaration stands
     /// in the data section. The package is found by halves.
     pub fn entry(&self, k: u32) -> Option<(&[u8], &[u8], u64)>
-        ensures exact { option_map (λ x. as_listed x.0.now x.1.now x.2) result ≡ slice_get (listed self.now.packages) k }
+        ensures exact { option_map (λ x. as_listed x.0.now x.1.now x.2) result
+            ≡ slice_get (listed self.now.packages) k }
         ensures inside { IfSome result (λ x. x.2 < self.now.body.len) }
     {
         entry(

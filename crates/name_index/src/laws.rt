@@ -8,16 +8,21 @@ ghost use Rattle.name_index.specs.Envelope.{Envelope};
 ghost use Rattle.name_index.specs.FirstBreach.{FirstBreach};
 ghost use Rattle.name_index.specs.Lookup.{IsListed};
 
-/// A list of bytes is a full file of a path, or it has a first breach; it is one file at the most and has one first breach
-/// at the most, and never both.
+/// A list of bytes is a full file of a path, or it has a first breach; it is one file at the most and has one first
+/// breach at the most, and never both.
 pub fn file_or_breach()
-    ensures either { (own bytes : List ℕ) → AllByRecursion (λ b. b < 256) bytes → ((file : FullFile) × Envelope own bytes file) ⊎ ((fault : ByteFault) × FirstBreach own bytes fault) }
+    ensures either { (own bytes : List ℕ) → AllByRecursion (λ b. b < 256) bytes
+        → ((file : FullFile) × Envelope own bytes file) ⊎ ((fault : ByteFault) × FirstBreach own bytes fault) }
     ensures one_file { (own bytes : List ℕ) (a b : FullFile) → Envelope own bytes a → Envelope own bytes b → a ≡ b }
-    ensures one_breach { (own bytes : List ℕ) (a b : ByteFault) → FirstBreach own bytes a → FirstBreach own bytes b → a ≡ b }
-    ensures not_both { (own bytes : List ℕ) (file : FullFile) (fault : ByteFault) → Envelope own bytes file → FirstBreach own bytes fault → ⊥ }
+    ensures one_breach { (own bytes : List ℕ) (a b : ByteFault) → FirstBreach own bytes a → FirstBreach own bytes b
+        → a ≡ b }
+    ensures not_both { (own bytes : List ℕ) (file : FullFile) (fault : ByteFault) → Envelope own bytes file
+        → FirstBreach own bytes fault → ⊥ }
 {}
 
 /// The index of a full file lists each name of each path once, so a name has one number and one offset.
 pub fn listed_once()
-    ensures { (own bytes : List ℕ) (file : FullFile) → Envelope own bytes file → (i j : ℕ) (path name : List ℕ) (a b : ℕ) → IsListed file.packages i path name a → IsListed file.packages j path name b → (i ≡ j) × (a ≡ b) }
+    ensures { (own bytes : List ℕ) (file : FullFile) → Envelope own bytes file
+        → (i j : ℕ) (path name : List ℕ) (a b : ℕ) → IsListed file.packages i path name a
+        → IsListed file.packages j path name b → (i ≡ j) × (a ≡ b) }
 {}

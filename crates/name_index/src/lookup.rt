@@ -1,10 +1,12 @@
 //! Answers from the records of an open file.
 
-ghost use Rattle.std.specs.Prelude.{◌≡◌, ◌<◌, ◌^◌, List, ℕ, Option, Some, option_map, unwrap_or, map, slice_get, length, IfSome, IfNone};
+ghost use Rattle.std.specs.Prelude.{◌≡◌, ◌<◌, ◌^◌, List, ℕ, Option, Some, option_map, unwrap_or, map, slice_get};
+ghost use Rattle.std.specs.Prelude.{length, IfSome, IfNone};
 ghost use Rattle.std.specs.List.{AllByRecursion};
 ghost use Rattle.name_index.specs.FullFile.{listed};
 ghost use Rattle.name_index.specs.Lookup.{heading_at, name_at, as_listed, IsListed};
-ghost use Rattle.name_index.specs.Records.{IsPackageInside, IsNumbered, IsHolder, IsSearchable, name_count, package_of, packages_of, paths_of};
+ghost use Rattle.name_index.specs.Records.{IsPackageInside, IsNumbered, IsHolder, IsSearchable, name_count, package_of};
+ghost use Rattle.name_index.specs.Records.{packages_of, paths_of};
 
 use crate::records::PackageRecord;
 use file_parts::{find_titled, text_of};
@@ -17,7 +19,8 @@ pub(crate) fn heading<'a>(
     k: u32,
 ) -> Option<(&'a [u8], &'a [u8])>
     requires { AllByRecursion (λ p. IsPackageInside strings.now p) packages.now }
-    ensures { option_map (λ x. (x.0.now, x.1.now)) result ≡ heading_at (packages_of own.now strings.now packages.now) k }
+    ensures { option_map (λ x. (x.0.now, x.1.now)) result
+        ≡ heading_at (packages_of own.now strings.now packages.now) k }
 {
     let k = k as usize;
     if k >= packages.len() {
@@ -94,7 +97,8 @@ pub(crate) fn entry<'a>(
     k: u32,
 ) -> Option<(&'a [u8], &'a [u8], u64)>
     requires { IsSearchable own.now strings.now packages.now }
-    ensures { option_map (λ x. as_listed x.0.now x.1.now x.2) result ≡ slice_get (listed (packages_of own.now strings.now packages.now)) k }
+    ensures { option_map (λ x. as_listed x.0.now x.1.now x.2) result
+        ≡ slice_get (listed (packages_of own.now strings.now packages.now)) k }
 {
     let holder = holder_of(packages, k)?;
     let place = k - packages[holder].first;
@@ -113,7 +117,8 @@ fn package_of_path(
     requires { IsSearchable own.now strings.now packages.now }
     ensures within { IfSome result (λ j. j < length packages.now) }
     ensures found { IfSome result (λ j. slice_get (paths_of own.now strings.now packages.now) j ≡ Some path.now) }
-    ensures none { IfNone result ((j : ℕ) → slice_get (paths_of own.now strings.now packages.now) j ≡ Some path.now → ⊥) }
+    ensures none { IfNone result ((j : ℕ) → slice_get (paths_of own.now strings.now packages.now) j ≡ Some path.now
+        → ⊥) }
 {
     let (_, others) = packages.split_first()?;
     if path == own {
@@ -139,8 +144,10 @@ pub(crate) fn look_up(
     name: &[u8],
 ) -> Option<ListedRecord>
     requires { IsSearchable own.now strings.now packages.now }
-    ensures found { IfSome result (λ x. IsListed (packages_of own.now strings.now packages.now) x.number path.now name.now x.offset) }
-    ensures none { IfNone result ((k offset : ℕ) → IsListed (packages_of own.now strings.now packages.now) k path.now name.now offset → ⊥) }
+    ensures found { IfSome result (λ x.
+        IsListed (packages_of own.now strings.now packages.now) x.number path.now name.now x.offset) }
+    ensures none { IfNone result ((k offset : ℕ)
+        → IsListed (packages_of own.now strings.now packages.now) k path.now name.now offset → ⊥) }
 {
     let holder = package_of_path(strings, own, packages, path)?;
     let package = &packages[holder];

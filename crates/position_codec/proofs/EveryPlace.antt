@@ -6,10 +6,10 @@ use Rattle.std.proofs.lemmas.Bool.{eqb-true, eqb-false}
 use Rattle.wire_bytes.specs.Text.{Text}
 use Rattle.wire_bytes.specs.Varint.{Varint}
 use Rattle.wire_bytes.proofs.Spellings.{every_number}
-use Rattle.wire_bytes.proofs.PrefixCodes.{every_signed}
+use Rattle.wire_bytes.proofs.PrefixCodeLemmas.{every_signed}
 use Rattle.position_codec.specs.Place.{Place, delta}
 use Rattle.position_codec.specs.Position.{Position, IsPlace, named_under}
-use Rattle.position_codec.proofs.Differences.{delta_fits}
+use Rattle.position_codec.proofs.DeltaLemmas.{delta_fits}
 
 delta_spelled : (from to : ℕ) (more : Bool) → from < 2 ^ 32 → to < 2 ^ 32 → (bytes : List ℕ) × Varint bytes (delta from to more)
 delta_spelled from to more small small' = every_signed (delta from to more) (delta_fits from to more small small')

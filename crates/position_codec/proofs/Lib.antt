@@ -1,5 +1,5 @@
-pub mod Differences
-pub mod Places
-pub mod Written
-pub mod Readings
+pub mod DeltaLemmas
+pub mod PlaceLemmas
+pub mod WroteLemmas
+pub mod PositionLemmas
 pub mod EveryPlace

@@ -13,7 +13,8 @@ use Rattle.position_codec.specs.Position.{Position}
 
 -- no place is spelled in front, unless it wasn't read for want of memory
 abbrev pub SpellsNone : List ℕ → Place → List ℕ → ReadFault → Type 0
-SpellsNone strings before bytes (answers.Bytes f) = (now : Named) (rest : List ℕ) → Begins (Position strings before) bytes now rest → ⊥
+SpellsNone strings before bytes (answers.Bytes f) = (now : Named) (rest : List ℕ)
+    → Begins (Position strings before) bytes now rest → ⊥
 SpellsNone strings before bytes answers.OutOfMemory = Unit {0}
 
 -- a position that was read stands in front, and the place before the next one is the one read
@@ -25,7 +26,8 @@ pub record Found (strings : List ℕ) (before after : Named) (old new : Spot) (p
 
 -- what was read, and where the cursor and the place before the next one then are; a refusal leaves both
 abbrev pub ReadsPosition : Result Pos ReadFault → Named → Named → Spot → Spot → Result (Named × Spot) ByteFault → Type 0
-ReadsPosition (Ok pos) before after old new read = (now : Named) × (read ≡ Ok (now, new)) × (pos ≡ pos_of now.place) × (after ≡ moved_on before now)
+ReadsPosition (Ok pos) before after old new read = (now : Named) × (read ≡ Ok (now, new)) × (pos ≡ pos_of now.place)
+    × (after ≡ moved_on before now)
 ReadsPosition (Err (answers.Bytes f)) before after old new read = (read ≡ Err f) × (after ≡ before) × (new ≡ old)
 ReadsPosition (Err answers.OutOfMemory) before after old new read = (after ≡ before) × (new ≡ old)
 

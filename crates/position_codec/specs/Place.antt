@@ -1,5 +1,6 @@
 -- Places, and numbers that go on from one to the next.
-use Rattle.std.specs.Prelude.{ℕ, ◌+◌, ◌-◌, ◌/◌, ◌%◌, ◌^◌, ℤ, pos, negsuc, ◌+ℤ◌, ◌-ℤ◌, ◌*ℤ◌, ◌==◌, ◌&&◌, nat_lt, if◌then◌else◌, List, [], length, Bool, Option, Some, None}
+use Rattle.std.specs.Prelude.{ℕ, ◌+◌, ◌-◌, ◌/◌, ◌%◌, ◌^◌, ℤ, pos, negsuc, ◌+ℤ◌, ◌-ℤ◌, ◌*ℤ◌, ◌==◌, ◌&&◌, nat_lt}
+use Rattle.std.specs.Prelude.{if◌then◌else◌, List, [], length, Bool, Option, Some, None}
 use Rattle.go_values.specs.declared.positions.Pos.{Pos}
 use Rattle.go_values.specs.declared.positions.Pos.TheVariants.{Nowhere, At}
 
@@ -9,13 +10,16 @@ pub record Place : Type 0 where
   pub line : ℕ
   pub column : ℕ
 
+abbrev pub place_at : List ℕ → ℕ → ℕ → Place
+place_at file line column = record { file = file; line = line; column = column }
+
 abbrev pub no_place : Place
-no_place = record { file = []; line = 0; column = 0 }
+no_place = place_at [] 0 0
 
 -- the place of a position
 abbrev pub place_of : Pos → Place
 place_of Nowhere = no_place
-place_of (At file line column) = record { file = file; line = line; column = column }
+place_of (At file line column) = place_at file line column
 
 -- the position at a place
 abbrev pub pos_of : Place → Pos
@@ -30,6 +34,10 @@ pub record Named : Type 0 where
 abbrev pub latest : Option ℕ → Option ℕ → Option ℕ
 latest (Some o) before = Some o
 latest None before = before
+
+-- another line and column of the file that was named last
+abbrev pub same_file : Named → ℕ → ℕ → Named
+same_file before line column = record { place = place_at before.place.file line column; name = before.name }
 
 abbrev pub moved_on : Named → Named → Named
 moved_on before now = record { place = now.place; name = latest now.name before.name }

@@ -1,5 +1,6 @@
 -- A place as it is spelled after the one before it in the same block.
-use Rattle.std.specs.Prelude.{◌≡◌, ◌≢◌, ℕ, ◌^◌, ◌<◌, ◌==◌, not, ℤ, nat_eq, List, ◌++◌, Bool, true, false, if◌then◌else◌, Some, None, Result, Ok, ◌⊎◌}
+use Rattle.std.specs.Prelude.{◌≡◌, ◌≢◌, ℕ, ◌^◌, ◌<◌, ◌==◌, not, ℤ, nat_eq, List, ◌++◌, Bool, true, false, if◌then◌else◌}
+use Rattle.std.specs.Prelude.{Some, None, Result, Ok, ◌⊎◌}
 use Rattle.std.specs.Cmp.Lexicographic.{pointwise}
 use Rattle.wire_bytes.specs.declared.fault.ByteFault.{ByteFault}
 use Rattle.wire_bytes.specs.declared.fault.ByteFault.TheVariants as faults
@@ -7,7 +8,7 @@ use Rattle.wire_bytes.specs.Reading.{Spot, place, ◌>>=◌, demand, or_fault}
 use Rattle.wire_bytes.specs.Uvarint.{Uvarint, uvarint_at}
 use Rattle.wire_bytes.specs.Varint.{number_of, Varint, varint_at}
 use Rattle.wire_bytes.specs.Text.{Text, text_in}
-use Rattle.position_codec.specs.Place.{Place, Named, delta, half, is_odd, moved}
+use Rattle.position_codec.specs.Place.{Place, Named, delta, half, is_odd, moved, place_at}
 
 -- on the same line of the same file: the column's number alone
 pub record ColumnAlone (before : Place) (bytes : List ℕ) (now : Named) : Type 0 where
@@ -45,7 +46,8 @@ pub record ColumnLineAndFile (strings : List ℕ) (before : Place) (bytes : List
 pub record Position (strings : List ℕ) (before : Place) (bytes : List ℕ) (now : Named) : Type 0 where
   pub line_fits : now.place.line < 2 ^ 32
   pub column_fits : now.place.column < 2 ^ 32
-  pub spelled : ColumnAlone before bytes now ⊎ (ColumnAndLine before bytes now ⊎ ColumnLineAndFile strings before bytes now)
+  pub spelled : ColumnAlone before bytes now
+      ⊎ (ColumnAndLine before bytes now ⊎ ColumnLineAndFile strings before bytes now)
 
 -- a place whose line and column have 32 bits
 abbrev pub IsPlace : Place → Type 0
@@ -53,7 +55,11 @@ IsPlace p = (p.line < 2 ^ 32) × (p.column < 2 ^ 32)
 
 -- the place with the offset of its file's name, which is spelled where the file is another one
 abbrev pub named_under : ℕ → Place → Place → Named
-named_under offset before now = record { place = now; name = if pointwise nat_eq before.file now.file then None else Some offset }
+named_under offset before now = record {
+  place = now;
+  name = if pointwise nat_eq before.file now.file then None
+      else Some offset;
+}
 
 -- ---- reading one
 
@@ -81,14 +87,16 @@ line_at before s = do
 
 -- what stands behind the line's number: another file, or nothing
 abbrev pub behind_line : List ℕ → Place → ℕ → ℕ → Bool → Spot → Result (Named × Spot) ByteFault
-behind_line strings before line column false s = Ok (record { place = record { file = before.file; line = line; column = column }; name = None }, s)
+behind_line strings before line column false s = Ok
+    (record { place = place_at before.file line column; name = None }, s)
 behind_line strings before line column true s = do
   file ← file_at strings before.file s
-  Ok (record { place = record { file = file.0.1; line = line; column = column }; name = Some file.0.0 }, file.1)
+  Ok (record { place = place_at file.0.1 line column; name = Some file.0.0 }, file.1)
 
 -- what stands behind the column's number: another line or file, or nothing
 abbrev pub behind_column : List ℕ → Place → ℕ → Bool → Spot → Result (Named × Spot) ByteFault
-behind_column strings before column false s = Ok (record { place = record { file = before.file; line = before.line; column = column }; name = None }, s)
+behind_column strings before column false s = Ok
+    (record { place = place_at before.file before.line column; name = None }, s)
 behind_column strings before column true s = do
   line ← line_at before.line s
   behind_line strings before line.0.1 column (is_odd line.0.0) line.1

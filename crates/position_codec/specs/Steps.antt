@@ -5,22 +5,24 @@ use Rattle.position_codec.specs.declared.reading.Step.{Step}
 use Rattle.wire_bytes.specs.Uvarint.{Uvarint}
 use Rattle.wire_bytes.specs.Varint.{Varint}
 use Rattle.wire_bytes.specs.Text.{Text}
-use Rattle.position_codec.specs.Place.{Place, Named, delta}
+use Rattle.position_codec.specs.Place.{Place, Named, place_at, delta}
 
 -- the place that a step leads to from the one before it
 abbrev pub now_by : Place → Option (ℕ × Bor (List ℕ)) → ℕ → ℕ → Named
-now_by before None line column = record { place = record { file = before.file; line = line; column = column }; name = None }
-now_by before (Some f) line column = record { place = record { file = f.1.now; line = line; column = column }; name = Some f.0 }
+now_by before None line column = record { place = place_at before.file line column; name = None }
+now_by before (Some f) line column = record { place = place_at f.1.now line column; name = Some f.0 }
 
 abbrev pub now_of : Place → Step → Named
 now_of before step = now_by before step.file step.line step.column
 
 -- the numbers of a column and a line were written
 abbrev pub AppendsBoth : Place → ℕ → ℕ → Bool → List ℕ → List ℕ → Type 0
-AppendsBoth before line column more old new = (a b : List ℕ) × Varint a (delta before.column column true) × Varint b (delta before.line line more) × (new ≡ old ++ (a ++ b))
+AppendsBoth before line column more old new = (a b : List ℕ) × Varint a (delta before.column column true)
+    × Varint b (delta before.line line more) × (new ≡ old ++ (a ++ b))
 
 -- a place in another file was written, and is the one before the next
-pub record NamesFile (strings : List ℕ) (before : Place) (after : Named) (file : List ℕ) (line column : ℕ) (old new : List ℕ) : Type 0 where
+pub record NamesFile (strings : List ℕ) (before : Place) (after : Named) (file : List ℕ) (line column : ℕ)
+    (old new : List ℕ) : Type 0 where
   pub offset : ℕ
   pub middle : List ℕ
   pub numbers : AppendsBoth before line column true old middle
@@ -28,4 +30,4 @@ pub record NamesFile (strings : List ℕ) (before : Place) (after : Named) (file
   pub spelled : Uvarint name offset
   pub appended : new ≡ middle ++ name
   pub there : Text strings offset file
-  pub moved : after ≡ record { place = record { file = file; line = line; column = column }; name = Some offset }
+  pub moved : after ≡ record { place = place_at file line column; name = Some offset }

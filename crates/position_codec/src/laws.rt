@@ -6,10 +6,13 @@ ghost use Rattle.wire_bytes.specs.Text.{Text};
 ghost use Rattle.position_codec.specs.Place.{Place, place_of, pos_of};
 ghost use Rattle.position_codec.specs.Position.{Position, IsPlace, named_under};
 
-/// After one position each place with the offset of its file's name has exactly one spelling, and none begins another, so what
-/// was written is read again, whatever follows it. Only the empty file, line 0 and column 0 is read as no position.
+/// After one position each place with the offset of its file's name has exactly one spelling, and none begins another,
+/// so what was written is read again, whatever follows it. Only the empty file, line 0 and column 0 is read as no
+/// position.
 pub fn one_position_spelling()
-    ensures every { (strings : List ℕ) (before now : Place) (offset : ℕ) → IsPlace before → IsPlace now → offset < 2 ^ 64 → Text strings offset now.file → (bytes : List ℕ) × Position strings before bytes (named_under offset before now) }
+    ensures every { (strings : List ℕ) (before now : Place) (offset : ℕ) → IsPlace before → IsPlace now
+        → offset < 2 ^ 64 → Text strings offset now.file → (bytes : List ℕ)
+        × Position strings before bytes (named_under offset before now) }
     ensures code { (strings : List ℕ) (before : Place) → IsPrefixCode (Position strings before) }
     ensures back { (p : Place) → place_of (pos_of p) ≡ p }
 {}

@@ -6,7 +6,7 @@ ghost use Rattle.wire_bytes.specs.Reading.{GivesBy};
 ghost use Rattle.wire_bytes.specs.Text.{Text};
 ghost use Rattle.wire_bytes.specs.Uvarint.{BeginsWith};
 ghost use Rattle.wire_bytes.specs.Varint.{Varint};
-ghost use Rattle.position_codec.specs.Place.{half, moved, moved_on, pos_of};
+ghost use Rattle.position_codec.specs.Place.{half, moved, moved_on, pos_of, place_at};
 ghost use Rattle.position_codec.specs.Calls.{Found, ReadsPosition, SpellsNone};
 ghost use Rattle.file_parts.specs.FileParts.{strings_of};
 ghost use Rattle.position_codec.specs.Position.{Position, moved_at, file_at, line_at, position_at};
@@ -19,12 +19,12 @@ use go_values::{Bytes, Pos};
 use std::alloc::{AllocError, Global};
 use wire_bytes::{ByteFault, Cursor, ReadFault, text_at, uvarint_of};
 
-/// Reads the next position as it is spelled after the one before it, and makes it the one before the next. After a refusal
-/// the cursor and the position before the next one are as they were.
+/// Reads the next position as it is spelled after the one before it, and makes it the one before the next. After a
+/// refusal the cursor and the position before the next one are as they were.
 ///
-/// Each number is judged as soon as it is read. A column or line that leaves the 32 bits is `Range` at its number, with the
-/// number's uvarint as value. A line's number 0, and the offset of the name of the same file, are `Number`. An offset at which
-/// no text is spelled is `Range`.
+/// Each number is judged as soon as it is read. A column or line that leaves the 32 bits is `Range` at its number, with
+/// the number's uvarint as value. A line's number 0, and the offset of the name of the same file, are `Number`. An
+/// offset at which no text is spelled is `Range`.
 pub fn read_full(
     alloc: Global,
     cursor: &mut Cursor<'_>,
@@ -35,7 +35,8 @@ pub fn read_full(
     requires body { parts.now.body_at + parts.now.body_len ≤ length parts.now.file.now }
     ensures found { IfOk result (λ pos. Found (strings_of parts.now) prev.old prev.new cursor.old cursor.new pos) }
     ensures none { IfErr result (SpellsNone (strings_of parts.now) prev.old.place cursor.old.left) }
-    ensures exact { ReadsPosition result prev.old prev.new cursor.old cursor.new (position_at (strings_of parts.now) prev.old.place cursor.old) }
+    ensures exact { ReadsPosition result prev.old prev.new cursor.old cursor.new
+        (position_at (strings_of parts.now) prev.old.place cursor.old) }
 {
     read_next(alloc, cursor, parts.strings(), prev)
 }
@@ -47,7 +48,8 @@ fn read_next(
     prev: &mut PrevPos,
 ) -> Result<Pos, ReadFault>
     ensures found { IfOk result (λ pos. Found strings.now prev.old prev.new cursor.old cursor.new pos) }
-    ensures exact { ReadsPosition result prev.old prev.new cursor.old cursor.new (position_at strings.now prev.old.place cursor.old) }
+    ensures exact { ReadsPosition result prev.old prev.new cursor.old cursor.new
+        (position_at strings.now prev.old.place cursor.old) }
 {
     let mut ahead = cursor.fork();
     let step = read_step(strings, prev, &mut ahead)?;
@@ -82,7 +84,7 @@ fn move_on(alloc: Global, prev: &mut PrevPos, step: &Step<'_>) -> Result<Pos, Al
 }
 
 fn pos_at(file: Bytes, line: u32, column: u32) -> Pos
-    ensures { result ≡ pos_of (record { file = file; line = line; column = column }) }
+    ensures { result ≡ pos_of (place_at file line column) }
 {
     if file.as_slice().is_empty() && line == 0 && column == 0 {
         Pos::Nowhere
@@ -94,7 +96,8 @@ fn pos_at(file: Bytes, line: u32, column: u32) -> Pos
 /// A signed number, and where it moves a line or column by its half.
 #[tactic(auto, unfolding(crate::specs::Position::moved_at))]
 fn read_moved(cursor: &mut Cursor<'_>, before: u32) -> Result<(i64, u32), ByteFault>
-    ensures found { IfOk result (λ x. Begins Varint cursor.old.left x.0 cursor.new.left × (moved before (half x.0) ≡ Some x.1)) }
+    ensures found { IfOk result (λ x. Begins Varint cursor.old.left x.0 cursor.new.left
+        × (moved before (half x.0) ≡ Some x.1)) }
     ensures exact { GivesBy Some (λ x. (x, cursor.new)) result (moved_at before cursor.old) }
 {
     let at = cursor.place() as u64;
@@ -115,7 +118,8 @@ fn read_file<'s>(
     before: &[u8],
     cursor: &mut Cursor<'_>,
 ) -> Result<(u64, &'s [u8]), ByteFault>
-    ensures found { IfOk result (λ x. BeginsWith cursor.old.left x.0 cursor.new.left × Text strings.now x.0 x.1.now × (x.1.now ≢ before.now)) }
+    ensures found { IfOk result (λ x. BeginsWith cursor.old.left x.0 cursor.new.left × Text strings.now x.0 x.1.now
+        × (x.1.now ≢ before.now)) }
     ensures exact { GivesBy Some (λ x. ((x.0, x.1.now), cursor.new)) result (file_at strings.now before.now cursor.old) }
 {
     let at = cursor.place() as u64;
@@ -132,7 +136,8 @@ fn read_file<'s>(
 /// The number of another line, or of the same one in another file, so it isn't 0; and where it moves the line.
 #[tactic(auto, unfolding(crate::specs::Position::line_at))]
 fn read_line(cursor: &mut Cursor<'_>, before: u32) -> Result<(i64, u32), ByteFault>
-    ensures found { IfOk result (λ x. Begins Varint cursor.old.left x.0 cursor.new.left × (moved before (half x.0) ≡ Some x.1) × (x.0 ≢ pos 0)) }
+    ensures found { IfOk result (λ x. Begins Varint cursor.old.left x.0 cursor.new.left
+        × (moved before (half x.0) ≡ Some x.1) × (x.0 ≢ pos 0)) }
     ensures exact { GivesBy Some (λ x. (x, cursor.new)) result (line_at before cursor.old) }
 {
     let at = cursor.place() as u64;
@@ -158,8 +163,10 @@ fn read_step<'s>(
     prev: &PrevPos,
     cursor: &mut Cursor<'_>,
 ) -> Result<Step<'s>, ByteFault>
-    ensures found { IfOk result (λ step. Begins (Position strings.now prev.now.place) cursor.old.left (now_of prev.now.place step) cursor.new.left) }
-    ensures exact { GivesBy Some (λ step. (now_of prev.now.place step, cursor.new)) result (position_at strings.now prev.now.place cursor.old) }
+    ensures found { IfOk result (λ step.
+        Begins (Position strings.now prev.now.place) cursor.old.left (now_of prev.now.place step) cursor.new.left) }
+    ensures exact { GivesBy Some (λ step. (now_of prev.now.place step, cursor.new)) result
+        (position_at strings.now prev.now.place cursor.old) }
 {
     let (number, column) = read_moved(cursor, prev.column)?;
     if !is_odd(number) {

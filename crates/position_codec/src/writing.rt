@@ -4,7 +4,7 @@ ghost use Rattle.std.specs.Prelude.{◌≡◌, ◌⊎◌, false, OnOk, OnErr};
 ghost use Rattle.wire_bytes.specs.Begins.{Appends};
 ghost use Rattle.wire_bytes.specs.Section.{section_of, with_text};
 ghost use Rattle.wire_bytes.specs.Varint.{Varint};
-ghost use Rattle.position_codec.specs.Place.{delta, place_of};
+ghost use Rattle.position_codec.specs.Place.{delta, place_at, place_of, same_file};
 ghost use Rattle.position_codec.specs.Steps.{AppendsBoth, NamesFile};
 ghost use Rattle.position_codec.specs.Calls.{Wrote, IsMore, with_file};
 
@@ -14,9 +14,9 @@ use go_values::{Bytes, Pos};
 use std::alloc::{AllocError, Global};
 use wire_bytes::{Strings, Writer};
 
-/// Writes a position as it is spelled after the one before it, and makes it the one before the next. A file that differs
-/// from the one before is added to the strings. After a refusal for want of memory some of the bytes may be written, and the
-/// file may be among the strings, but the position before the next one is as it was.
+/// Writes a position as it is spelled after the one before it, and makes it the one before the next. A file that
+/// differs from the one before is added to the strings. After a refusal for want of memory some of the bytes may be
+/// written, and the file may be among the strings, but the position before the next one is as it was.
 pub fn write_full(
     alloc: Global,
     w: &mut Writer,
@@ -27,7 +27,8 @@ pub fn write_full(
     ensures written { OnOk result (Wrote (section_of strings.new) prev.old prev.new w.old w.new (place_of pos.now)) }
     ensures strings { OnOk result (strings.new ≡ with_file strings.old prev.old.place (place_of pos.now)) }
     ensures refused { OnErr result (prev.new ≡ prev.old) }
-    ensures kept_strings { OnErr result ((strings.new ≡ strings.old) ⊎ (strings.new ≡ with_file strings.old prev.old.place (place_of pos.now))) }
+    ensures kept_strings { OnErr result ((strings.new ≡ strings.old)
+        ⊎ (strings.new ≡ with_file strings.old prev.old.place (place_of pos.now))) }
     ensures kept_bytes { IsMore w.old w.new }
 {
     match pos {
@@ -53,10 +54,11 @@ fn write_place(
     line: u32,
     column: u32,
 ) -> Result<(), AllocError>
-    ensures written { OnOk result (Wrote (section_of strings.new) prev.old prev.new w.old w.new (record { file = file.now; line = line; column = column })) }
-    ensures strings { OnOk result (strings.new ≡ with_file strings.old prev.old.place (record { file = file.now; line = line; column = column })) }
+    ensures written { OnOk result (Wrote (section_of strings.new) prev.old prev.new w.old w.new (place_at file.now line column)) }
+    ensures strings { OnOk result (strings.new ≡ with_file strings.old prev.old.place (place_at file.now line column)) }
     ensures refused { OnErr result (prev.new ≡ prev.old) }
-    ensures kept_strings { OnErr result ((strings.new ≡ strings.old) ⊎ (strings.new ≡ with_file strings.old prev.old.place (record { file = file.now; line = line; column = column }))) }
+    ensures kept_strings { OnErr result ((strings.new ≡ strings.old)
+        ⊎ (strings.new ≡ with_file strings.old prev.old.place (place_at file.now line column))) }
     ensures kept_bytes { IsMore w.old w.new }
 {
     if prev.file.as_slice() != file {
@@ -71,7 +73,7 @@ fn write_place(
 /// Writes a place on the same line of the same file.
 fn write_column(w: &mut Writer, prev: &mut PrevPos, column: u32) -> Result<(), AllocError>
     ensures written { OnOk result (Appends Varint w.old (delta prev.old.place.column column false) w.new) }
-    ensures moved { OnOk result (prev.new ≡ record { place = record { file = prev.old.place.file; line = prev.old.place.line; column = column }; name = prev.old.name }) }
+    ensures moved { OnOk result (prev.new ≡ same_file prev.old prev.old.place.line column) }
     ensures refused { OnErr result (prev.new ≡ prev.old) }
     ensures kept_bytes { IsMore w.old w.new }
 {
@@ -83,7 +85,7 @@ fn write_column(w: &mut Writer, prev: &mut PrevPos, column: u32) -> Result<(), A
 /// Writes a place on another line of the same file.
 fn write_line(w: &mut Writer, prev: &mut PrevPos, line: u32, column: u32) -> Result<(), AllocError>
     ensures written { OnOk result (AppendsBoth prev.old.place line column false w.old w.new) }
-    ensures moved { OnOk result (prev.new ≡ record { place = record { file = prev.old.place.file; line = line; column = column }; name = prev.old.name }) }
+    ensures moved { OnOk result (prev.new ≡ same_file prev.old line column) }
     ensures refused { OnErr result (prev.new ≡ prev.old) }
     ensures kept_bytes { IsMore w.old w.new }
 {

@@ -5,7 +5,7 @@ use Rattle.std.specs.Cmp.Lexicographic.{pointwise, bytes_decides}
 use Rattle.name_index.specs.FullFile.{FullFile, Listed, listed}
 use Rattle.name_index.specs.Lookup.{as_listed, IsListed}
 use Rattle.name_index.specs.Envelope.{Envelope}
-use Rattle.name_index.proofs.Sorted.{one_number}
+use Rattle.name_index.proofs.SortedLemmas.{one_number}
 use Rattle.session.specs.Names.{is_named, offset_among}
 
 -- where the first of some names stands that is this one

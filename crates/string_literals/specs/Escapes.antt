@@ -1,5 +1,7 @@
--- Reading what stands behind a backslash of an interpreted string literal (the language specification's section Rune literals), as bytes.
-use Rattle.std.specs.Prelude.{ℕ, zero, suc, ◌+◌, ◌*◌, ◌==◌, ◌||◌, nat_lt, List, [], ◌∷◌, if◌then◌else◌, Option, Some, None, encode_utf8}
+-- Reading what stands behind a backslash of an interpreted string literal (the language specification's section Rune
+-- literals), as bytes.
+use Rattle.std.specs.Prelude.{ℕ, zero, suc, ◌+◌, ◌*◌, ◌==◌, ◌||◌, nat_lt, List, [], ◌∷◌, if◌then◌else◌, Option, Some}
+use Rattle.std.specs.Prelude.{None, encode_utf8}
 use Rattle.std.specs.Char.{digit_value}
 use Rattle.go_lexer.specs.Escapes.{is_code_point}
 use Rattle.string_literals.specs.declared.escapes.Meaning.{Meaning}
@@ -28,7 +30,8 @@ simple b =
 abbrev pub digits : ℕ → ℕ → ℕ → List ℕ → Option ℕ
 digits base zero value bs = Some value
 digits base (suc n) value [] = None
-digits base (suc n) value (b ∷ bs) = if nat_lt (digit_value b) base then digits base n (value * base + digit_value b) bs else None
+digits base (suc n) value (b ∷ bs) = if nat_lt (digit_value b) base
+    then digits base n (value * base + digit_value b) bs else None
 
 -- an escape of so many bytes, where its value fits a byte
 abbrev pub byte_escape : ℕ → Option ℕ → Option Piece
@@ -37,7 +40,8 @@ byte_escape more None = None
 
 -- an escape of so many bytes, where its value is a code point and no surrogate half
 abbrev pub code_point_escape : ℕ → Option ℕ → Option Piece
-code_point_escape more (Some value) = if is_code_point value then Some (record { meaning = CodePoint value; more = more }) else None
+code_point_escape more (Some value) = if is_code_point value
+    then Some (record { meaning = CodePoint value; more = more }) else None
 code_point_escape more None = None
 
 -- an escape that gives its value by digits

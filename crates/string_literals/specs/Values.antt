@@ -24,7 +24,8 @@ piece b bs = if b == backslash then escaped (escape bs) else plain b
 -- the value of what stands behind the first double quote, once so many more bytes of a piece are passed over
 abbrev pub text_after : ℕ → List ℕ → List ℕ
 text_after more [] = []
-text_after zero (b ∷ bs) = if b == double_quote then [] else bytes_of (piece b bs).meaning ++ text_after (piece b bs).more bs
+text_after zero (b ∷ bs) = if b == double_quote then []
+    else bytes_of (piece b bs).meaning ++ text_after (piece b bs).more bs
 text_after (suc more) (b ∷ bs) = text_after more bs
 
 -- the value of what stands behind the first back quote

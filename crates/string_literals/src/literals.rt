@@ -67,9 +67,9 @@ fn read_literal(alloc: Global, literal: &[u8]) -> Result<Bytes, AllocError>
     }
 }
 
-/// The bytes that a string literal stands for, given with its quotes. For what is no literal: a backslash that begins no escape
-/// stands for itself, `\'` for the single quote; a text that isn't closed ends where its bytes do; and what begins with no quote
-/// has the empty value.
+/// The bytes that a string literal stands for, given with its quotes. For what is no literal: a backslash that begins
+/// no escape stands for itself, `\'` for the single quote; a text that isn't closed ends where its bytes do; and what
+/// begins with no quote has the empty value.
 pub fn unquoted(alloc: Global, literal: &[u8]) -> Result<Bytes, AllocError>
     ensures found { IfOk result (λ value. (bytes : List ℕ) → HasValue literal.now bytes → value ≡ bytes) }
     ensures exact { IfOk result (λ value. value ≡ value_of literal.now) }
@@ -85,5 +85,6 @@ pub fn one_value()
 /// Each string of the lexical grammar has a value.
 pub fn each_has_value()
     ensures interpreted { (inside : List ℕ) → IsStringText inside → IsValued (literal_of double_quote inside) }
-    ensures raw { (inside : List ℕ) → Each (λ c. not (c == back_quote)) inside → IsValued (literal_of back_quote inside) }
+    ensures raw { (inside : List ℕ) → Each (λ c. not (c == back_quote)) inside
+        → IsValued (literal_of back_quote inside) }
 {}

@@ -1,4 +1,4 @@
-pub mod NodesExact
-pub mod Insertions
+pub mod NodeEqualityLemmas
+pub mod InsertionLemmas
 pub mod PackageLemmas
-pub mod Variables
+pub mod VariableLemmas

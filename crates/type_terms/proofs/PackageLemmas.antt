@@ -4,7 +4,7 @@ use Rattle.std.specs.Prelude.{nat_eq, slice_get}
 use Rattle.std.specs.Cmp.Lexicographic.{pointwise}
 use Rattle.std.specs.Map.{lookup}
 use Rattle.std.proofs.lemmas.Cmp.{nat_list_eq_equiv}
-use Rattle.go_values.proofs.Exact.{exact_bytes}
+use Rattle.go_values.specs.Exact.{exact_bytes}
 use Rattle.type_terms.specs.Trees.{Text}
 use Rattle.type_terms.specs.Packages.{Named, name_of, package_decl}
 

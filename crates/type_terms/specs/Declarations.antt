@@ -1,5 +1,5 @@
--- What stands in a declaration, flat, with P for a position, S for a text and R for a type. A declaration that is meant has
--- trees for its types.
+-- What stands in a declaration, flat, with P for a position, S for a text and R for a type. A declaration that is meant
+-- has trees for its types.
 use Rattle.std.specs.Prelude.{ℕ, Bool, List, [], ◌∷◌, ◌++◌, map}
 use Rattle.std.specs.List.{flat_map}
 use Rattle.go_values.specs.declared.positions.Pos.{Pos}
@@ -29,13 +29,15 @@ pub data Form (P S R : Type 0) : Type 0 where
 
 module _ {P P' S S' R R' : Type 0} (p : P → P') (s : S → S') (r : R → R') where
   abbrev pub receiver_map : ReceiverOf P S R → ReceiverOf P' S' R'
-  receiver_map x = record { pos = p x.pos; name = s x.name; recv = param_map p s s r x.recv; sig = sig_map p s s r x.sig }
+  receiver_map x = record
+      { pos = p x.pos; name = s x.name; recv = param_map p s s r x.recv; sig = sig_map p s s r x.sig }
 
   abbrev pub form_map : Form P S R → Form P' S' R'
   form_map (var_of pos type) = var_of (p pos) (r type)
   form_map (function_of pos tparams sig) = function_of (p pos) (map r tparams) (sig_map p s s r sig)
   form_map (constant_of pos type value) = constant_of (p pos) (r type) value
-  form_map (defined_of pos tparams underlying methods) = defined_of (p pos) (map r tparams) (r underlying) (map receiver_map methods)
+  form_map (defined_of pos tparams underlying methods) = defined_of (p pos) (map r tparams) (r underlying)
+      (map receiver_map methods)
   form_map (renamed_of pos tparams type) = renamed_of (p pos) (map r tparams) (r type)
   form_map (type_parameter_of pos implicit constraint) = type_parameter_of (p pos) implicit (r constraint)
 

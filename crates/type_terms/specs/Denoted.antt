@@ -1,5 +1,6 @@
 -- What holds of the trees of nodes.
-use Rattle.std.proofs.Common.{◌≡◌, ℕ, ◌+◌, ◌<◌, List, [], ◌∷◌, ◌++◌, length, Some, refl, ap, sym, ◌∙◌, arith, suc, zero, length-append}
+use Rattle.std.proofs.Common.{◌≡◌, ℕ, ◌+◌, ◌<◌, List, [], ◌∷◌, ◌++◌, length, Some, refl, ap, sym, ◌∙◌, arith, suc, zero}
+use Rattle.std.proofs.Common.{length-append}
 use Rattle.std.specs.Prelude.{slice_get}
 use Rattle.std.specs.List.{AllByRecursion}
 use Rattle.std.proofs.Math.ListN.{get_or-append}
@@ -16,19 +17,24 @@ use Rattle.type_terms.specs.ShapesTold.{retype_told}
 use Rattle.type_terms.specs.TreeLevels.{level_told}
 use Rattle.type_terms.specs.NodesBack.{node_told}
 
-after_append : (below : List Tree) (xs ys : List Node) → trees_after below (xs ++ ys) ≡ trees_after (trees_after below xs) ys
+after_append : (below : List Tree) (xs ys : List Node)
+    → trees_after below (xs ++ ys) ≡ trees_after (trees_after below xs) ys
 after_append below [] ys = refl
 after_append below (x ∷ xs) ys = after_append (below ++ node_tree below x ∷ []) xs ys
 
 after_length : (below : List Tree) (xs : List Node) → length (trees_after below xs) ≡ length below + length xs
 after_length below [] = omega arith
-after_length below (x ∷ xs) = omega (arith, after_length (below ++ node_tree below x ∷ []) xs, length-append below (node_tree below x ∷ []))
+after_length below (x ∷ xs) = omega
+    (arith, after_length (below ++ node_tree below x ∷ []) xs, length-append below (node_tree below x ∷ []))
 
-after_keeps : (below : List Tree) (xs : List Node) (n : ℕ) → n < length below → tree_at (trees_after below xs) n ≡ tree_at below n
+after_keeps : (below : List Tree) (xs : List Node) (n : ℕ) → n < length below
+    → tree_at (trees_after below xs) n ≡ tree_at below n
 after_keeps below [] n h = refl
 after_keeps below (x ∷ xs) n h =
-    let longer : n < length (below ++ node_tree below x ∷ []) = omega (arith, length-append below (node_tree below x ∷ [])) in
-    after_keeps (below ++ node_tree below x ∷ []) xs n longer ∙ get_or-append below (node_tree below x ∷ []) (predeclared bool_type) n h
+    let longer : n
+    < length (below ++ node_tree below x ∷ []) = omega (arith, length-append below (node_tree below x ∷ [])) in
+    after_keeps (below ++ node_tree below x ∷ []) xs n longer ∙ get_or-append below (node_tree below x ∷ [])
+    (predeclared bool_type) n h
 
 -- a node keeps its tree as nodes are added
 pub tree_stays : (nodes more : List Node) (n : ℕ) → n < length nodes → tree (nodes ++ more) n ≡ tree nodes n
@@ -38,7 +44,8 @@ tree_stays nodes more n h =
     ap (λ trees. tree_at trees n) (after_append [] nodes more) ∙ after_keeps (trees_after [] nodes) more n within
 
 -- a new node's tree is made of the trees of the nodes before it
-pub tree_added : (nodes : List Node) (node : Node) → tree (nodes ++ node ∷ []) (length nodes) ≡ tree_of (retype (tree nodes) (node_shape node))
+pub tree_added : (nodes : List Node) (node : Node)
+    → tree (nodes ++ node ∷ []) (length nodes) ≡ tree_of (retype (tree nodes) (node_shape node))
 unfolding tree
 tree_added nodes node =
     let below = trees_after [] nodes in
@@ -48,17 +55,25 @@ tree_added nodes node =
     ∙ get_or-append_seam below (node_tree below node) [] (predeclared bool_type)
 
 -- where a node stands, the list is cut there
-cut_at : (xs : List Node) (n : ℕ) (x : Node) → slice_get xs n ≡ Some x → (front : List Node) × (back : List Node) × (xs ≡ (front ++ x ∷ []) ++ back) × (length front ≡ n)
+cut_at : (xs : List Node) (n : ℕ) (x : Node) → slice_get xs n ≡ Some x → (front : List Node) × (back : List Node)
+    × (xs ≡ (front ++ x ∷ []) ++ back) × (length front ≡ n)
 cut_at [] n x e = cc
 cut_at (y ∷ ys) zero x e = let same : y ≡ x = (cc) in ([], ys, ap (λ a. a ∷ ys) same, refl)
-cut_at (y ∷ ys) (suc n) x e = let rest = cut_at ys n x e in (y ∷ rest.0, rest.1, ap (λ zs. y ∷ zs) rest.2, omega (arith, rest.3))
+cut_at (y ∷ ys) (suc n) x e = let rest = cut_at ys n x e in (
+  y
+      ∷ rest.0,
+  rest.1,
+  ap (λ zs. y ∷ zs) rest.2,
+  omega (arith, rest.3),
+)
 
 pub all_weaker : (P Q : ℕ → Type 0) → ((c : ℕ) → P c → Q c) → (cs : List ℕ) → AllByRecursion P cs → AllByRecursion Q cs
 all_weaker P Q step [] all = tt
 all_weaker P Q step (c ∷ cs) all = (step c all.0, all_weaker P Q step cs all.1)
 
 -- One level: a node whose children stand before it denotes its shape, with the trees of its children.
-pub tree_unfolds : (nodes : List Node) (n : ℕ) (node : Node) → IsNode nodes n node → AllBelow n (children node) → tree nodes n ≡ tree_of (retype (tree nodes) (node_shape node))
+pub tree_unfolds : (nodes : List Node) (n : ℕ) (node : Node) → IsNode nodes n node → AllBelow n (children node)
+    → tree nodes n ≡ tree_of (retype (tree nodes) (node_shape node))
 tree_unfolds nodes n node is falls =
     let cut = cut_at nodes n node is in
     let front = cut.0 in
@@ -70,10 +85,14 @@ tree_unfolds nodes n node is falls =
     λ c below.
     let in_front : c < length front = omega arith in
     let in_both : c < length (front ++ node ∷ []) = omega arith in
-    ap (λ all. tree all c) whole ∙ tree_stays (front ++ node ∷ []) back c in_both ∙ tree_stays front (node ∷ []) c in_front
+    ap (λ all. tree all c) whole ∙ tree_stays (front ++ node ∷ []) back c in_both ∙ tree_stays front (node ∷ []) c
+    in_front
     in
-    let here : tree nodes n ≡ tree (front ++ node ∷ []) n = ap (λ all. tree all n) whole ∙ tree_stays (front ++ node ∷ []) back n inner in
-    let there : tree (front ++ node ∷ []) n ≡ tree_of (retype (tree front) (node_shape node)) = ap (λ k. tree (front ++ node ∷ []) k) (sym size) ∙ tree_added front node in
+    let here : tree nodes n
+    ≡ tree (front ++ node ∷ []) n = ap (λ all. tree all n) whole ∙ tree_stays (front ++ node ∷ []) back n inner in
+    let there : tree (front ++ node ∷ []) n
+    ≡ tree_of (retype (tree front) (node_shape node)) = ap (λ k. tree (front ++ node ∷ []) k) (sym size) ∙
+    tree_added front node in
     let agree : AllByRecursion (λ c. tree front c ≡ tree nodes c) (children node) =
     all_weaker (λ c. c < n) (λ c. tree front c ≡ tree nodes c) (λ c below. sym (stays c below)) (children node) falls
     in

@@ -1,11 +1,12 @@
 -- What holds of the entries of environments, and of a package's.
-use Rattle.std.proofs.Common.{◌≡◌, ◌<◌, Bool, true, false, cond, List, [], ◌∷◌, ◌++◌, map, length, Option, Some, None, refl, ap, sym, ◌∙◌, subst, arith, length-append}
+use Rattle.std.proofs.Common.{◌≡◌, ◌<◌, Bool, true, false, cond, List, [], ◌∷◌, ◌++◌, map, length, Option, Some, None}
+use Rattle.std.proofs.Common.{refl, ap, sym, ◌∙◌, subst, arith, length-append}
 use Rattle.std.specs.Prelude.{nat_eq, option_map}
 use Rattle.std.specs.List.{flat_map, AllByRecursion, Contains}
 use Rattle.std.specs.Map.{lookup}
 use Rattle.std.specs.Cmp.Lexicographic.{pointwise}
 use Rattle.std.proofs.lemmas.List.Elements.{Contains-append_left, Contains-append_right, Contains-get_or}
-use Rattle.go_values.proofs.Exact.{exact_bytes}
+use Rattle.go_values.specs.Exact.{exact_bytes}
 use Rattle.go_values.specs.declared.qualified.QName.{QName}
 use Rattle.go_values.specs.declared.positions.Pos.{Pos}
 use Rattle.type_terms.specs.declared.descriptors.Node.{Node}
@@ -15,9 +16,12 @@ use Rattle.type_terms.specs.Shapes.{sig_types}
 use Rattle.type_terms.specs.Trees.{Text}
 use Rattle.type_terms.specs.Denotation.{tree}
 use Rattle.type_terms.specs.Arenas.{Contents, AllBelow, Extends}
-use Rattle.type_terms.specs.Declarations.{ReceiverOf, Form, var_of, function_of, constant_of, defined_of, renamed_of, type_parameter_of, Decl, receiver_map, receiver_types, form_map, form_types, decl_form, decl_nodes}
+use Rattle.type_terms.specs.Declarations.{ReceiverOf, Form, var_of, function_of, constant_of, defined_of, renamed_of}
+use Rattle.type_terms.specs.Declarations.{type_parameter_of, Decl, receiver_map, receiver_types, form_map, form_types}
+use Rattle.type_terms.specs.Declarations.{decl_form, decl_nodes}
 use Rattle.type_terms.specs.Environments.{Entry, declared, decl_of, IsProperDecl, entry_types, AddsOnly}
-use Rattle.type_terms.specs.Packages.{Named, package_decl, package_entry, package_names, HoldsParameters, DeclsStand, PackageStands, over_entries}
+use Rattle.type_terms.specs.Packages.{Named, package_decl, package_entry, package_names, HoldsParameters, DeclsStand}
+use Rattle.type_terms.specs.Packages.{PackageStands, over_entries}
 use Rattle.type_terms.specs.Replaced.{all_left, all_right, map_agrees}
 use Rattle.type_terms.specs.ShapeLaws.{Agree, type_agrees, sig_agrees}
 use Rattle.type_terms.specs.Denoted.{tree_stays, all_weaker}
@@ -27,13 +31,21 @@ no_entry P entry e = cc
 
 -- Two replacements of the types that agree on those of a declaration give one declaration.
 module _ {R R' : Type 0} (f g : R → R') (P S : Type 0) where
-  receivers_agree : (xs : List (ReceiverOf P S R)) → AllByRecursion (Agree f g) (flat_map receiver_types xs) → map (receiver_map (λ x. x) (λ x. x) f) xs ≡ map (receiver_map (λ x. x) (λ x. x) g) xs
-  receivers_agree = map_agrees (receiver_map (λ x. x) (λ x. x) f) (receiver_map (λ x. x) (λ x. x) g) receiver_types (Agree f g)
+  receivers_agree : (xs : List (ReceiverOf P S R)) → AllByRecursion (Agree f g) (flat_map receiver_types xs)
+      → map (receiver_map (λ x. x) (λ x. x) f) xs ≡ map (receiver_map (λ x. x) (λ x. x) g) xs
+  receivers_agree = map_agrees (receiver_map (λ x. x) (λ x. x) f) (receiver_map (λ x. x) (λ x. x) g) receiver_types
+      (Agree f g)
       (λ x all.
       let sig = sig_agrees f g P S S x.sig all.1 in
-      λ i. record { pos = x.pos; name = x.name; recv = record { pos = x.recv.pos; name = x.recv.name; type = all.0 i }; sig = sig i })
+      λ i. record {
+        pos = x.pos;
+        name = x.name;
+        recv = record { pos = x.recv.pos; name = x.recv.name; type = all.0 i };
+        sig = sig i;
+      })
 
-  pub form_agrees : (form : Form P S R) → AllByRecursion (Agree f g) (form_types form) → form_map (λ x. x) (λ x. x) f form ≡ form_map (λ x. x) (λ x. x) g form
+  pub form_agrees : (form : Form P S R) → AllByRecursion (Agree f g) (form_types form)
+      → form_map (λ x. x) (λ x. x) f form ≡ form_map (λ x. x) (λ x. x) g form
   form_agrees (var_of pos type) all = ap (var_of pos) all.0
   form_agrees (function_of pos tparams sig) all =
       let types = type_agrees f g tparams (all_left (Agree f g) tparams (sig_types sig) all) in
@@ -41,7 +53,8 @@ module _ {R R' : Type 0} (f g : R → R') (P S : Type 0) where
       λ i. function_of pos (types i) (rest i)
   form_agrees (constant_of pos type value) all = λ i. constant_of pos (all.0 i) value
   form_agrees (defined_of pos tparams underlying methods) all =
-      let types = type_agrees f g tparams (all_left (Agree f g) tparams (underlying ∷ flat_map receiver_types methods) all) in
+      let types = type_agrees f g tparams
+      (all_left (Agree f g) tparams (underlying ∷ flat_map receiver_types methods) all) in
       let rest = all_right (Agree f g) tparams (underlying ∷ flat_map receiver_types methods) all in
       let receivers = receivers_agree methods rest.1 in
       λ i. defined_of pos (types i) (rest.0 i) (receivers i)
@@ -52,16 +65,21 @@ module _ {R R' : Type 0} (f g : R → R') (P S : Type 0) where
   form_agrees (type_parameter_of pos implicit constraint) all = ap (type_parameter_of pos implicit) all.0
 
 -- a declaration means the same as nodes are added
-pub decl_of-stays : (nodes more : List Node) (decl : DeclNode) → AllBelow (length nodes) (decl_nodes decl) → decl_of (nodes ++ more) decl ≡ decl_of nodes decl
+pub decl_of-stays : (nodes more : List Node) (decl : DeclNode) → AllBelow (length nodes) (decl_nodes decl)
+    → decl_of (nodes ++ more) decl ≡ decl_of nodes decl
 decl_of-stays nodes more decl below =
     form_agrees (tree (nodes ++ more)) (tree nodes) Pos Text (decl_form decl)
-    (all_weaker (λ n. n < length nodes) (Agree (tree (nodes ++ more)) (tree nodes)) (λ n h. tree_stays nodes more n h) (decl_nodes decl) below)
+    (all_weaker (λ n. n < length nodes) (Agree (tree (nodes ++ more)) (tree nodes)) (λ n h. tree_stays nodes more n h)
+    (decl_nodes decl) below)
 
 -- The package stands as nodes are added, and means the same.
 module _ (nodes more : List Node) (path : Text) (decls : List Named) (stands : DeclsStand nodes path decls) where
-  entry_stays : (name : Text) (found : Option DeclNode) → package_decl decls name ≡ found → option_map (λ decl. declared (decl_of (nodes ++ more) decl)) found ≡ option_map (λ decl. declared (decl_of nodes decl)) found
+  entry_stays : (name : Text) (found : Option DeclNode) → package_decl decls name ≡ found
+      → option_map (λ decl. declared (decl_of (nodes ++ more) decl)) found
+      ≡ option_map (λ decl. declared (decl_of nodes decl)) found
   entry_stays name None e = refl
-  entry_stays name (Some decl) e = ap (λ d. Some (declared d)) (decl_of-stays nodes more decl (stands.below name decl e))
+  entry_stays name (Some decl) e = ap (λ d. Some (declared d))
+      (decl_of-stays nodes more decl (stands.below name decl e))
 
   pub package_entry-stays : (name : Text) → package_entry (nodes ++ more) decls name ≡ package_entry nodes decls name
   package_entry-stays name = entry_stays name (package_decl decls name) refl
@@ -69,12 +87,18 @@ module _ (nodes more : List Node) (path : Text) (decls : List Named) (stands : D
   pub decls_stay : DeclsStand (nodes ++ more) path decls
   decls_stay = record {
     rises = stands.rises;
-    below = λ name decl e. all_weaker (λ n. n < length nodes) (λ n. n < length (nodes ++ more)) (λ n h. omega (arith, length-append nodes more)) (decl_nodes decl) (stands.below name decl e);
-    proper = λ name decl e. subst IsProperDecl (sym (decl_of-stays nodes more decl (stands.below name decl e))) (stands.proper name decl e);
-    parameters = λ name decl e. subst (HoldsParameters path decls name) (sym (decl_of-stays nodes more decl (stands.below name decl e))) (stands.parameters name decl e);
+    below = λ name decl e.
+        all_weaker (λ n. n < length nodes) (λ n. n < length (nodes ++ more))
+        (λ n h. omega (arith, length-append nodes more)) (decl_nodes decl) (stands.below name decl e);
+    proper = λ name decl e.
+        subst IsProperDecl (sym (decl_of-stays nodes more decl (stands.below name decl e))) (stands.proper name decl e);
+    parameters = λ name decl e.
+        subst (HoldsParameters path decls name) (sym (decl_of-stays nodes more decl (stands.below name decl e)))
+        (stands.parameters name decl e);
   }
 
-pub package_stays : (nodes more : List Node) (whole : Package) → PackageStands nodes whole → PackageStands (nodes ++ more) whole
+pub package_stays : (nodes more : List Node) (whole : Package) → PackageStands nodes whole
+    → PackageStands (nodes ++ more) whole
 package_stays nodes more whole stands = record {
   imports = stands.imports;
   files = stands.files;
@@ -82,14 +106,19 @@ package_stays nodes more whole stands = record {
 }
 
 -- what a package gives is a declaration of its own
-pub package_entry-decl : (nodes : List Node) (decls : List Named) (name : Text) (entry : Entry) → package_entry nodes decls name ≡ Some entry → (decl : DeclNode) × (package_decl decls name ≡ Some decl) × (entry ≡ declared (decl_of nodes decl))
+pub package_entry-decl : (nodes : List Node) (decls : List Named) (name : Text) (entry : Entry)
+    → package_entry nodes decls name ≡ Some entry → (decl : DeclNode) × (package_decl decls name ≡ Some decl)
+    × (entry ≡ declared (decl_of nodes decl))
 package_entry-decl nodes decls name entry = by (package_decl decls name) refl
   where
-    by : (found : Option DeclNode) → package_decl decls name ≡ found → option_map (λ decl. declared (decl_of nodes decl)) found ≡ Some entry → (decl : DeclNode) × (package_decl decls name ≡ Some decl) × (entry ≡ declared (decl_of nodes decl))
+    by : (found : Option DeclNode) → package_decl decls name ≡ found
+        → option_map (λ decl. declared (decl_of nodes decl)) found ≡ Some entry → (decl : DeclNode)
+        × (package_decl decls name ≡ Some decl) × (entry ≡ declared (decl_of nodes decl))
     by None e is = no_entry _ entry is
     by (Some decl) e is = let same : declared (decl_of nodes decl) ≡ entry = (cc) in (decl, e, sym same)
 
-pub package_entry-proper : (nodes : List Node) (path : Text) (decls : List Named) (name : Text) (decl : Decl) → DeclsStand nodes path decls → package_entry nodes decls name ≡ Some (declared decl) → IsProperDecl decl
+pub package_entry-proper : (nodes : List Node) (path : Text) (decls : List Named) (name : Text) (decl : Decl)
+    → DeclsStand nodes path decls → package_entry nodes decls name ≡ Some (declared decl) → IsProperDecl decl
 package_entry-proper nodes path decls name decl stands is =
     let found = package_entry-decl nodes decls name (declared decl) is in
     let given : declared decl ≡ declared (decl_of nodes found.0) = found.2 in
@@ -103,32 +132,44 @@ contains_here : {X : Type 0} (x : X) (xs : List X) → Contains (x ∷ xs) x
 contains_here x xs = Contains-get_or (x ∷ xs) 0 x (omega arith)
 
 -- a name that a package declares is one of its names
-pub package_names-has : (path : Text) (decls : List Named) (name : Text) (decl : DeclNode) → package_decl decls name ≡ Some decl → Contains (package_names path decls) (record { path = path; name = name })
+pub package_names-has : (path : Text) (decls : List Named) (name : Text) (decl : DeclNode)
+    → package_decl decls name ≡ Some decl → Contains (package_names path decls) (record { path = path; name = name })
 package_names-has path [] name decl e = (cc)
-package_names-has path (own ∷ rest) name decl e = by (pointwise nat_eq name own.0) refl e (package_names-has path rest name decl)
+package_names-has path (own ∷ rest) name decl e = by (pointwise nat_eq name own.0) refl e
+    (package_names-has path rest name decl)
   where
-    by : (b : Bool) → pointwise nat_eq name own.0 ≡ b → cond b (Some own.1) (lookup (pointwise nat_eq name) rest) ≡ Some decl
-        → (package_decl rest name ≡ Some decl → Contains (package_names path rest) (record { path = path; name = name }))
+    by : (b : Bool) → pointwise nat_eq name own.0 ≡ b
+        → cond b (Some own.1) (lookup (pointwise nat_eq name) rest) ≡ Some decl
+        → (package_decl rest name ≡ Some decl
+        → Contains (package_names path rest) (record { path = path; name = name }))
         → Contains (package_names path (own ∷ rest)) (record { path = path; name = name })
     by true same e later =
-        subst (λ n. Contains (package_names path (own ∷ rest)) (record { path = path; name = n })) (sym (exact_bytes name own.0 same))
+        subst (λ n. Contains (package_names path (own ∷ rest)) (record { path = path; name = n }))
+        (sym (exact_bytes name own.0 same))
         (contains_here (record { path = path; name = own.0 }) (package_names path rest))
-    by false same e later = contains_there (record { path = path; name = own.0 }) (package_names path rest) (record { path = path; name = name }) (later e)
+    by false same e later = contains_there (record { path = path; name = own.0 }) (package_names path rest)
+        (record { path = path; name = name }) (later e)
 
 -- The same of a package over other entries.
-pub over_finite : (path : Text) (decls : List Named) (names : List QName) (base : QName → Option Entry) (nodes : List Node) (q : QName) (entry : Entry) → (base q ≡ Some entry → Contains names q)
+pub over_finite : (path : Text) (decls : List Named) (names : List QName) (base : QName
+    → Option Entry) (nodes : List Node) (q : QName) (entry : Entry) → (base q ≡ Some entry → Contains names q)
     → over_entries path decls nodes base q ≡ Some entry → Contains (package_names path decls ++ names) q
 over_finite path decls names base nodes q entry below = by (pointwise nat_eq q.path path) refl
   where
-    by : (b : Bool) → pointwise nat_eq q.path path ≡ b → cond b (package_entry nodes decls q.name) (base q) ≡ Some entry → Contains (package_names path decls ++ names) q
+    by : (b : Bool) → pointwise nat_eq q.path path ≡ b
+        → cond b (package_entry nodes decls q.name) (base q) ≡ Some entry
+        → Contains (package_names path decls ++ names) q
     by true same is =
         let found = package_entry-decl nodes decls q.name entry is in
         let own = package_names-has path decls q.name found.0 found.1 in
         let name : path ≡ q.path = sym (exact_bytes q.path path same) in
-        Contains-append_left (package_names path decls) names q (subst (λ p. Contains (package_names path decls) (record { path = p; name = q.name })) name own)
+        Contains-append_left (package_names path decls) names q
+        (subst (λ p. Contains (package_names path decls) (record { path = p; name = q.name })) name own)
     by false same is = Contains-append_right (package_names path decls) names q (below is)
 
-pub over_proper : (path : Text) (decls : List Named) (base : QName → Option Entry) (nodes : List Node) (q : QName) (decl : Decl) → DeclsStand nodes path decls → (base q ≡ Some (declared decl) → IsProperDecl decl)
+pub over_proper : (path : Text) (decls : List Named) (base : QName
+    → Option Entry) (nodes : List Node) (q : QName) (decl : Decl) → DeclsStand nodes path decls
+    → (base q ≡ Some (declared decl) → IsProperDecl decl)
     → over_entries path decls nodes base q ≡ Some (declared decl) → IsProperDecl decl
 over_proper path decls base nodes q decl stands below = by (pointwise nat_eq q.path path)
   where
@@ -136,21 +177,30 @@ over_proper path decls base nodes q decl stands below = by (pointwise nat_eq q.p
     by true is = package_entry-proper nodes path decls q.name decl stands is
     by false is = below is
 
-pub over_stays : (path : Text) (decls : List Named) (nodes more : List Node) → DeclsStand nodes path decls → (late early : QName → Option Entry) → late ≡ early → over_entries path decls (nodes ++ more) late ≡ over_entries path decls nodes early
+pub over_stays : (path : Text) (decls : List Named) (nodes more : List Node) → DeclsStand nodes path decls
+    → (late early : QName → Option Entry) → late ≡ early
+    → over_entries path decls (nodes ++ more) late ≡ over_entries path decls nodes early
 over_stays path decls nodes more stands late early e =
     λ i q. cond (pointwise nat_eq q.path path) (package_entry-stays nodes more path decls stands q.name i) (e i q)
 
 -- The same from one state of an arena to a later one.
-pub package_grown : (whole : Package) (old new : Contents) → Extends old new → PackageStands old.nodes whole → PackageStands new.nodes whole
-package_grown whole old new grown stands = subst (λ nodes. PackageStands nodes whole) (sym grown.nodes) (package_stays old.nodes grown.more whole stands)
+pub package_grown : (whole : Package) (old new : Contents) → Extends old new → PackageStands old.nodes whole
+    → PackageStands new.nodes whole
+package_grown whole old new grown stands = subst (λ nodes. PackageStands nodes whole) (sym grown.nodes)
+    (package_stays old.nodes grown.more whole stands)
 
-pub over_grown : (path : Text) (decls : List Named) (old new : Contents) → Extends old new → DeclsStand old.nodes path decls → (late early : QName → Option Entry) → late ≡ early
+pub over_grown : (path : Text) (decls : List Named) (old new : Contents) → Extends old new
+    → DeclsStand old.nodes path decls → (late early : QName → Option Entry) → late ≡ early
     → over_entries path decls new.nodes late ≡ over_entries path decls old.nodes early
 over_grown path decls old new grown stands late early e =
-    ap (λ nodes. over_entries path decls nodes late) grown.nodes ∙ over_stays path decls old.nodes grown.more stands late early e
+    ap (λ nodes. over_entries path decls nodes late) grown.nodes ∙ over_stays path decls old.nodes grown.more stands
+    late early e
 
-pub over_adds : (path : Text) (decls : List Named) (nodes : List Node) (base : QName → Option Entry) (q : QName) (old new : Contents) → pointwise nat_eq q.path path ≡ false
+pub over_adds : (path : Text) (decls : List Named) (nodes : List Node) (base : QName
+    → Option Entry) (q : QName) (old new : Contents) → pointwise nat_eq q.path path ≡ false
     → AddsOnly (entry_types (base q)) old new → AddsOnly (entry_types (over_entries path decls nodes base q)) old new
 over_adds path decls nodes base q old new other adds =
-    let entry : base q ≡ over_entries path decls nodes base q = ap (λ b. cond b (package_entry nodes decls q.name) (base q)) (sym other) in
+    let entry : base q
+    ≡ over_entries path decls nodes base q = ap (λ b. cond b (package_entry nodes decls q.name) (base q))
+    (sym other) in
     subst (λ e. AddsOnly (entry_types e) old new) entry adds

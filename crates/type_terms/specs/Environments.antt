@@ -1,5 +1,6 @@
 -- What environments give for names, and the rules that the declarations they give keep.
-use Rattle.std.specs.Prelude.{◌≡◌, ℕ, ◌<◌, ◌≤◌, ◌^◌, ◌⊎◌, List, [], Bool, true, IsTrue, Option, Some, None, Result, Ok, Err, length}
+use Rattle.std.specs.Prelude.{◌≡◌, ℕ, ◌<◌, ◌≤◌, ◌^◌, ◌⊎◌, List, [], Bool, true, IsTrue, Option, Some, None, Result, Ok}
+use Rattle.std.specs.Prelude.{Err, length}
 use Rattle.std.specs.List.{All, Contains}
 use Rattle.go_values.specs.declared.positions.Pos.{Pos}
 use Rattle.go_values.specs.declared.qualified.QName.{QName}
@@ -10,11 +11,13 @@ use Rattle.type_terms.specs.declared.declarations.DeclNode.{DeclNode}
 use Rattle.type_terms.specs.declared.environments.EnvError.{EnvError}
 use Rattle.type_terms.specs.declared.environments.EnvError.TheVariants.{Unknown, Damaged, TableFull, Nodes, OutOfMemory}
 use Rattle.type_terms.specs.Shapes.{SigOf, array_of, func_of, interface_of, instance_of, union_of}
-use Rattle.type_terms.specs.Trees.{Text, Tree, predeclared, named, parameter, alias, interface, instance, union, Level, level_of}
+use Rattle.type_terms.specs.Trees.{Text, Tree, predeclared, named, parameter, alias, interface, instance, union, Level}
+use Rattle.type_terms.specs.Trees.{level_of}
 use Rattle.type_terms.specs.Parts.{Within, MeetsBase}
 use Rattle.type_terms.specs.Denotation.{tree}
 use Rattle.type_terms.specs.Arenas.{Contents, AllBelow}
-use Rattle.type_terms.specs.Declarations.{var_of, function_of, constant_of, defined_of, renamed_of, type_parameter_of, Decl, form_map, form_types, decl_form, decl_nodes}
+use Rattle.type_terms.specs.Declarations.{var_of, function_of, constant_of, defined_of, renamed_of, type_parameter_of}
+use Rattle.type_terms.specs.Declarations.{Decl, form_map, form_types, decl_form, decl_nodes}
 
 -- the declaration that a declaration over nodes denotes
 abbrev pub decl_of : List Node → DeclNode → Decl
@@ -71,7 +74,8 @@ abbrev pub IsProperForm : Decl → Type 0
 IsProperForm (var_of pos type) = Unit {0}
 IsProperForm (function_of pos tparams sig) = All IsTypeParameter tparams × HasLast sig
 IsProperForm (constant_of pos type value) = Unit {0}
-IsProperForm (defined_of pos tparams underlying methods) = All IsTypeParameter tparams × IsUnderlying underlying × ((methods ≡ []) ⊎ MayHaveMethods underlying) × All (λ method. HasLast method.sig) methods
+IsProperForm (defined_of pos tparams underlying methods) = All IsTypeParameter tparams × IsUnderlying underlying
+    × ((methods ≡ []) ⊎ MayHaveMethods underlying) × All (λ method. HasLast method.sig) methods
 IsProperForm (renamed_of pos tparams type) = All IsTypeParameter tparams × ((tparams ≡ []) ⊎ (IsTypeParameter type → ⊥))
 IsProperForm (type_parameter_of pos implicit constraint) = IsTrue implicit → IsInterface constraint
 
@@ -90,21 +94,25 @@ StandsIn whole type = (outer : Tree) × Contains whole outer × Within outer typ
 
 -- what the nodes denote that came after the old ones stands in these types
 abbrev pub AddsOnly : List Tree → Contents → Contents → Type 0
-AddsOnly whole old new = (number : ℕ) → length old.nodes ≤ number → number < length new.nodes → StandsIn whole (tree new.nodes number)
+AddsOnly whole old new = (number : ℕ) → length old.nodes ≤ number → number < length new.nodes
+    → StandsIn whole (tree new.nodes number)
 
--- What an answer for the name q says of the entry, of the arena and of the flag at exit. Each answer comes only so, and they
--- exclude each other; OutOfMemory is free.
+-- What an answer for the name q says of the entry, of the arena and of the flag at exit. Each answer comes only so, and
+-- they exclude each other; OutOfMemory is free.
 abbrev pub Answers : Option Entry → QName → Contents → Option Bool → Result DeclNode EnvError → Type 0
-Answers entry q arena full (Ok node) = (entry ≡ Some (declared (decl_of arena.nodes node))) × AllBelow (length arena.nodes) (decl_nodes node)
+Answers entry q arena full (Ok node) = (entry ≡ Some (declared (decl_of arena.nodes node)))
+    × AllBelow (length arena.nodes) (decl_nodes node)
 Answers entry q arena full (Err (Unknown name)) = (entry ≡ None) × (name ≡ q)
-Answers entry q arena full (Err (Damaged name fault)) = ((read : List Tree) × (entry ≡ Some (damaged fault read))) × (name ≡ q)
+Answers entry q arena full (Err (Damaged name fault)) = ((read : List Tree) × (entry ≡ Some (damaged fault read)))
+    × (name ≡ q)
 Answers entry q arena full (Err TableFull) = full ≡ Some true
 Answers entry q arena full (Err Nodes) = length arena.nodes ≡ arena.limit
 Answers entry q arena full (Err OutOfMemory) = Unit {0}
 
 -- No other name than q came to the names asked, and none was lost.
 abbrev pub AsksOnly : Option (List QName) → QName → Option (List QName) → Type 0
-AsksOnly (Some old) q (Some new) = ((name : QName) → Contains new name → Contains old name ⊎ (name ≡ q)) × ((name : QName) → Contains old name → Contains new name)
+AsksOnly (Some old) q (Some new) = ((name : QName) → Contains new name → Contains old name ⊎ (name ≡ q))
+    × ((name : QName) → Contains old name → Contains new name)
 AsksOnly None q None = Unit {0}
 AsksOnly (Some old) q None = ⊥
 AsksOnly None q (Some new) = ⊥

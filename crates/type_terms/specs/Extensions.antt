@@ -1,5 +1,6 @@
 -- What stays as an arena is extended.
-use Rattle.std.proofs.Common.{◌≡◌, ℕ, ◌<◌, ◌≤◌, List, [], ◌++◌, length, Option, refl, ap, sym, ◌∙◌, subst, arith, length-append, append_assoc}
+use Rattle.std.proofs.Common.{◌≡◌, ℕ, ◌<◌, ◌≤◌, List, [], ◌++◌, length, Option, refl, ap, sym, ◌∙◌, subst, arith}
+use Rattle.std.proofs.Common.{length-append, append_assoc}
 use Rattle.std.proofs.lemmas.List.{append-nil}
 use Rattle.go_values.specs.declared.qualified.QName.{QName}
 use Rattle.type_terms.specs.declared.descriptors.Node.{Node}
@@ -25,21 +26,28 @@ pub extends_longer : (old new : Contents) → Extends old new → length old.nod
 extends_longer old new grown = omega (arith, ap length grown.nodes, length-append old.nodes grown.more)
 
 -- each node keeps its tree
-pub extends_tree : (old new : Contents) → Extends old new → (n : ℕ) → n < length old.nodes → tree new.nodes n ≡ tree old.nodes n
+pub extends_tree : (old new : Contents) → Extends old new → (n : ℕ) → n < length old.nodes
+    → tree new.nodes n ≡ tree old.nodes n
 extends_tree old new grown n h = ap (λ nodes. tree nodes n) grown.nodes ∙ tree_stays old.nodes grown.more n h
 
 -- nodes of the arena stay in it
-pub extends_below : (old new : Contents) → Extends old new → (ids : List ℕ) → AllBelow (length old.nodes) ids → AllBelow (length new.nodes) ids
+pub extends_below : (old new : Contents) → Extends old new → (ids : List ℕ) → AllBelow (length old.nodes) ids
+    → AllBelow (length new.nodes) ids
 extends_below old new grown ids below =
-    all_weaker (λ n. n < length old.nodes) (λ n. n < length new.nodes) (λ n h. omega (arith, extends_longer old new grown)) ids below
+    all_weaker (λ n. n < length old.nodes) (λ n. n < length new.nodes)
+    (λ n h. omega (arith, extends_longer old new grown)) ids below
 
 -- a declaration keeps its meaning
-pub extends_decl : (old new : Contents) → Extends old new → (decl : DeclNode) → AllBelow (length old.nodes) (decl_nodes decl) → decl_of new.nodes decl ≡ decl_of old.nodes decl
-extends_decl old new grown decl below = ap (λ nodes. decl_of nodes decl) grown.nodes ∙ decl_of-stays old.nodes grown.more decl below
+pub extends_decl : (old new : Contents) → Extends old new → (decl : DeclNode)
+    → AllBelow (length old.nodes) (decl_nodes decl) → decl_of new.nodes decl ≡ decl_of old.nodes decl
+extends_decl old new grown decl below = ap (λ nodes. decl_of nodes decl) grown.nodes ∙ decl_of-stays old.nodes
+    grown.more decl below
 
 -- An environment may still be used, and means the same: for its law `stays`.
-pub extends_env : (stands : List Node → Type 0) (entries : List Node → QName → Option Entry) → ((nodes more : List Node) → stands nodes → stands (nodes ++ more) × (entries (nodes ++ more) ≡ entries nodes))
-    → (old new : Contents) → Extends old new → stands old.nodes → stands new.nodes × (entries new.nodes ≡ entries old.nodes)
+pub extends_env : (stands : List Node → Type 0) (entries : List Node → QName → Option Entry)
+    → ((nodes more : List Node) → stands nodes → stands (nodes ++ more) × (entries (nodes ++ more) ≡ entries nodes))
+    → (old new : Contents) → Extends old new → stands old.nodes → stands new.nodes
+    × (entries new.nodes ≡ entries old.nodes)
 extends_env stands entries stays old new grown here =
     let later = stays old.nodes grown.more here in
     (subst stands (sym grown.nodes) later.0, ap entries grown.nodes ∙ later.1)

@@ -8,8 +8,12 @@ use Rattle.type_terms.specs.declared.literals.Field.{Field}
 use Rattle.type_terms.specs.declared.literals.IMethod.{IMethod}
 use Rattle.type_terms.specs.declared.literals.Term.{Term}
 use Rattle.type_terms.specs.declared.descriptors.Node.{Node}
-use Rattle.type_terms.specs.declared.descriptors.Node.TheVariants.{Predeclared, Named, Param, AliasName, Pointer, Slice, Array, Chan, MapOf, FuncOf, StructOf, Iface, Instance, Union}
-use Rattle.type_terms.specs.Shapes.{ParamOf, SigOf, OriginOf, FieldOf, MethodOf, TermOf, Shape, predeclared_of, named_of, parameter_of, alias_of, pointer_of, slice_of, array_of, chan_of, map_of, func_of, struct_of, interface_of, instance_of, union_of, shape_types}
+use Rattle.type_terms.specs.declared.descriptors.Node.TheVariants.{Predeclared, Named, Param, AliasName, Pointer, Slice}
+use Rattle.type_terms.specs.declared.descriptors.Node.TheVariants.{Array, Chan, MapOf, FuncOf, StructOf, Iface}
+use Rattle.type_terms.specs.declared.descriptors.Node.TheVariants.{Instance, Union}
+use Rattle.type_terms.specs.Shapes.{ParamOf, SigOf, OriginOf, FieldOf, MethodOf, TermOf, Shape, predeclared_of}
+use Rattle.type_terms.specs.Shapes.{named_of, parameter_of, alias_of, pointer_of, slice_of, array_of, chan_of, map_of}
+use Rattle.type_terms.specs.Shapes.{func_of, struct_of, interface_of, instance_of, union_of, shape_types}
 use Rattle.type_terms.specs.Trees.{Text}
 
 abbrev pub origin_shape : Origin → OriginOf Text Text
@@ -22,7 +26,8 @@ abbrev pub sig_shape : Sig → SigOf Pos Text ℕ
 sig_shape x = record { params = map param_shape x.params; results = map param_shape x.results; variadic = x.variadic }
 
 abbrev pub field_shape : Field → FieldOf Pos Text Text ℕ
-field_shape x = record { origin = origin_shape x.origin; pos = x.pos; name = x.name; type = x.ty; embedded = x.embedded; tag = x.tag }
+field_shape x = record
+    { origin = origin_shape x.origin; pos = x.pos; name = x.name; type = x.ty; embedded = x.embedded; tag = x.tag }
 
 abbrev pub method_shape : IMethod → MethodOf Pos Text Text ℕ
 method_shape x = record { origin = origin_shape x.origin; pos = x.pos; name = x.name; sig = sig_shape x.sig }

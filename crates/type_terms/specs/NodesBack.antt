@@ -7,8 +7,12 @@ use Rattle.type_terms.specs.declared.literals.Field.{Field}
 use Rattle.type_terms.specs.declared.literals.IMethod.{IMethod}
 use Rattle.type_terms.specs.declared.literals.Term.{Term}
 use Rattle.type_terms.specs.declared.descriptors.Node.{Node}
-use Rattle.type_terms.specs.declared.descriptors.Node.TheVariants.{Predeclared, Named, Param, AliasName, Pointer, Slice, Array, Chan, MapOf, FuncOf, StructOf, Iface, Instance, Union}
-use Rattle.type_terms.specs.Shapes.{ParamOf, SigOf, FieldOf, MethodOf, TermOf, Shape, predeclared_of, named_of, parameter_of, alias_of, pointer_of, slice_of, array_of, chan_of, map_of, func_of, struct_of, interface_of, instance_of, union_of}
+use Rattle.type_terms.specs.declared.descriptors.Node.TheVariants.{Predeclared, Named, Param, AliasName, Pointer, Slice}
+use Rattle.type_terms.specs.declared.descriptors.Node.TheVariants.{Array, Chan, MapOf, FuncOf, StructOf, Iface}
+use Rattle.type_terms.specs.declared.descriptors.Node.TheVariants.{Instance, Union}
+use Rattle.type_terms.specs.Shapes.{ParamOf, SigOf, FieldOf, MethodOf, TermOf, Shape, predeclared_of, named_of}
+use Rattle.type_terms.specs.Shapes.{parameter_of, alias_of, pointer_of, slice_of, array_of, chan_of, map_of, func_of}
+use Rattle.type_terms.specs.Shapes.{struct_of, interface_of, instance_of, union_of}
 use Rattle.type_terms.specs.Trees.{Text}
 use Rattle.type_terms.specs.NodeShapes.{param_shape, sig_shape, field_shape, method_shape, term_shape, node_shape}
 
@@ -19,10 +23,18 @@ abbrev sig_node : SigOf Pos Text ℕ → Sig
 sig_node x = record { params = map param_node x.params; results = map param_node x.results; variadic = x.variadic }
 
 abbrev field_node : FieldOf Pos Text Text ℕ → Field
-field_node x = record { origin = record { text = x.origin.text; path = x.origin.path }; pos = x.pos; name = x.name; ty = x.type; embedded = x.embedded; tag = x.tag }
+field_node x = record {
+  origin = record { text = x.origin.text; path = x.origin.path };
+  pos = x.pos;
+  name = x.name;
+  ty = x.type;
+  embedded = x.embedded;
+  tag = x.tag;
+}
 
 abbrev method_node : MethodOf Pos Text Text ℕ → IMethod
-method_node x = record { origin = record { text = x.origin.text; path = x.origin.path }; pos = x.pos; name = x.name; sig = sig_node x.sig }
+method_node x = record
+    { origin = record { text = x.origin.text; path = x.origin.path }; pos = x.pos; name = x.name; sig = sig_node x.sig }
 
 abbrev term_node : TermOf ℕ → Term
 term_node x = record { tilde = x.tilde; ty = x.type }

@@ -1,5 +1,6 @@
 -- What a package is: its parts, and its declarations by their names.
-use Rattle.std.specs.Prelude.{◌≡◌, ◌≢◌, ℕ, ◌<◌, ◌≤◌, ◌^◌, ◌⊎◌, Bool, List, [], ◌++◌, Option, Some, nat_eq, slice_get, option_map, length, map, cond, codes, decimal}
+use Rattle.std.specs.Prelude.{◌≡◌, ◌≢◌, ℕ, ◌<◌, ◌≤◌, ◌^◌, ◌⊎◌, Bool, List, [], ◌++◌, Option, Some, nat_eq, slice_get}
+use Rattle.std.specs.Prelude.{option_map, length, map, cond, codes, decimal}
 use Rattle.std.specs.List.{All, Contains}
 use Rattle.std.specs.Cmp.Lexicographic.{pointwise}
 use Rattle.std.specs.Map.{lookup}
@@ -53,7 +54,8 @@ package_names path decls = map (λ decl. record { path = path; name = decl.0 }) 
 abbrev pub IsPlain : Text → Type 0
 IsPlain name = (name ≢ []) × (name ≢ codes "_") × All (λ c. (c ≢ 36) × (c ≢ 46)) name
 
--- what the export name of a type parameter ends with: its own name, or where that is blank `$` and its place in the list
+-- what the export name of a type parameter ends with: its own name, or where that is blank `$` and its place in the
+-- list
 abbrev pub IsOwnName : ℕ → Text → Type 0
 IsOwnName place own = IsPlain own ⊎ (own ≡ codes "$" ++ decimal place)
 
@@ -68,7 +70,8 @@ IsExportName name = (owner : Text) × (place : ℕ) × (own : Text) × IsOwnName
 abbrev pub HoldsList : Text → List Named → Text → List Tree → Type 0
 HoldsList path decls owner types = (place : ℕ) (type : Tree) → slice_get types place ≡ Some type
     → (own : Text) × IsOwnName place own × (type ≡ parameter (record { path = path; name = dotted owner own }))
-    × ((pos : Pos) × (implicit : Bool) × (constraint : ℕ) × (package_decl decls (dotted owner own) ≡ Some (Parameter pos implicit constraint)))
+    × ((pos : Pos) × (implicit : Bool) × (constraint : ℕ)
+    × (package_decl decls (dotted owner own) ≡ Some (Parameter pos implicit constraint)))
 
 abbrev pub arguments : Tree → List Tree
 arguments (instance base args) = type_list args
@@ -79,12 +82,13 @@ abbrev pub receiver_parameters : Tree → List Tree
 receiver_parameters (pointer type) = arguments type
 receiver_parameters type = arguments type
 
--- The package holds the type parameters of a declaration, and those of its methods' receivers, whose owner is the method.
--- A type parameter itself stands under an export name.
+-- The package holds the type parameters of a declaration, and those of its methods' receivers, whose owner is the
+-- method. A type parameter itself stands under an export name.
 abbrev pub HoldsParameters : Text → List Named → Text → Decl → Type 0
 HoldsParameters path decls name (function_of pos tparams sig) = HoldsList path decls name tparams
 HoldsParameters path decls name (defined_of pos tparams underlying methods) =
-    HoldsList path decls name tparams × All (λ method. HoldsList path decls (dotted name method.name) (receiver_parameters method.recv.type)) methods
+    HoldsList path decls name tparams
+    × All (λ method. HoldsList path decls (dotted name method.name) (receiver_parameters method.recv.type)) methods
 HoldsParameters path decls name (renamed_of pos tparams type) = HoldsList path decls name tparams
 HoldsParameters path decls name (type_parameter_of pos implicit constraint) = IsExportName name
 HoldsParameters path decls name _ = Unit {0}
@@ -93,9 +97,11 @@ HoldsParameters path decls name _ = Unit {0}
 -- parameters are declared too.
 pub record DeclsStand (nodes : List Node) (path : Text) (decls : List Named) : Type 0 where
   pub rises : IsRising name_of decls
-  pub below : (name : Text) (decl : DeclNode) → package_decl decls name ≡ Some decl → AllBelow (length nodes) (decl_nodes decl)
+  pub below : (name : Text) (decl : DeclNode) → package_decl decls name ≡ Some decl
+      → AllBelow (length nodes) (decl_nodes decl)
   pub proper : (name : Text) (decl : DeclNode) → package_decl decls name ≡ Some decl → IsProperDecl (decl_of nodes decl)
-  pub parameters : (name : Text) (decl : DeclNode) → package_decl decls name ≡ Some decl → HoldsParameters path decls name (decl_of nodes decl)
+  pub parameters : (name : Text) (decl : DeclNode) → package_decl decls name ≡ Some decl
+      → HoldsParameters path decls name (decl_of nodes decl)
 
 -- The package keeps the rules of one, over these nodes.
 pub record PackageStands (nodes : List Node) (whole : Package) : Type 0 where

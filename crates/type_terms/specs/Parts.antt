@@ -2,7 +2,10 @@
 use Rattle.std.specs.Prelude.{ℕ, ◌+◌, ◌<◌, List, length}
 use Rattle.std.specs.List.{Contains}
 use Rattle.type_terms.specs.Shapes.{instance_of, shape_types}
-use Rattle.type_terms.specs.Trees.{Tree, predeclared, named, parameter, alias, pointer, slice, array, chan, map_type, func, struct, interface, instance, union, Trees, no_types, types, Params, no_params, params, Fields, no_fields, fields, Methods, no_methods, methods, Terms, no_terms, terms, Level, level_of}
+use Rattle.type_terms.specs.Trees.{Tree, predeclared, named, parameter, alias, pointer, slice, array, chan, map_type}
+use Rattle.type_terms.specs.Trees.{func, struct, interface, instance, union, Trees, no_types, types, Params, no_params}
+use Rattle.type_terms.specs.Trees.{params, Fields, no_fields, fields, Methods, no_methods, methods, Terms, no_terms}
+use Rattle.type_terms.specs.Trees.{terms, Level, level_of}
 
 -- the types that stand in a type, one level down, in reading order
 abbrev pub parts : Tree → List Tree
@@ -45,7 +48,8 @@ abbrev mutual
 
   pub methods_size : Methods → ℕ
   methods_size no_methods = 0
-  methods_size (methods origin pos name ins outs variadic rest) = (params_size ins + params_size outs) + methods_size rest
+  methods_size (methods origin pos name ins outs variadic rest) = (params_size ins + params_size outs) + methods_size
+      rest
 
   pub terms_size : Terms → ℕ
   terms_size no_terms = 0

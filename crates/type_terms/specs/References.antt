@@ -2,7 +2,10 @@
 use Rattle.std.specs.Prelude.{ℕ, List, [], ◌∷◌, ◌++◌, ◌+◌, map, length}
 use Rattle.std.specs.List.{flat_map, Contains}
 use Rattle.go_values.specs.declared.qualified.QName.{QName}
-use Rattle.type_terms.specs.Trees.{Tree, predeclared, named, parameter, alias, pointer, slice, array, chan, map_type, func, struct, interface, instance, union, Trees, no_types, types, Params, no_params, params, Fields, no_fields, fields, Methods, no_methods, methods, Terms, no_terms, terms, Level}
+use Rattle.type_terms.specs.Trees.{Tree, predeclared, named, parameter, alias, pointer, slice, array, chan, map_type}
+use Rattle.type_terms.specs.Trees.{func, struct, interface, instance, union, Trees, no_types, types, Params, no_params}
+use Rattle.type_terms.specs.Trees.{params, Fields, no_fields, fields, Methods, no_methods, methods, Terms, no_terms}
+use Rattle.type_terms.specs.Trees.{terms, Level}
 use Rattle.type_terms.specs.Shapes.{named_of, parameter_of, alias_of, instance_of, shape_types}
 use Rattle.type_terms.specs.Declarations.{Decl, form_types}
 
@@ -61,7 +64,8 @@ abbrev mutual
 
   pub methods_references : Methods → List Reference
   methods_references no_methods = []
-  methods_references (methods origin pos name ins outs variadic rest) = (params_references ins ++ params_references outs) ++ methods_references rest
+  methods_references (methods origin pos name ins outs variadic rest) = (params_references ins
+      ++ params_references outs) ++ methods_references rest
 
   pub terms_references : Terms → List Reference
   terms_references no_terms = []
@@ -70,7 +74,8 @@ abbrev mutual
 -- the same, by one level of the type
 abbrev pub level_references : Level → List Reference
 level_references (named_of name path) = record { name = record { path = path; name = name }; role = as_defined } ∷ []
-level_references (parameter_of name path) = record { name = record { path = path; name = name }; role = as_parameter } ∷ []
+level_references (parameter_of name path) = record { name = record { path = path; name = name }; role = as_parameter }
+    ∷ []
 level_references (alias_of name path) = record { name = record { path = path; name = name }; role = as_alias } ∷ []
 level_references (instance_of base args) = flat_map tree_references args ++ base_references base (length args)
 level_references level = flat_map tree_references (shape_types level)

@@ -18,7 +18,8 @@ module _ {R : Type 0} (P : R → Type 0) where
 
 -- the parts of what was replaced are the parts, replaced
 module _ {A B R T : Type 0} (g : A → B) (f : R → T) (parts : A → List R) (parts' : B → List T) where
-  pub parts_of_map : ((x : A) → parts' (g x) ≡ map f (parts x)) → (xs : List A) → flat_map parts' (map g xs) ≡ map f (flat_map parts xs)
+  pub parts_of_map : ((x : A) → parts' (g x) ≡ map f (parts x)) → (xs : List A)
+      → flat_map parts' (map g xs) ≡ map f (flat_map parts xs)
   parts_of_map each [] = refl
   parts_of_map each (x ∷ xs) =
       ap (λ (front : List T). front ++ flat_map parts' (map g xs)) (each x)
@@ -27,7 +28,8 @@ module _ {A B R T : Type 0} (g : A → B) (f : R → T) (parts : A → List R) (
 
 -- two replacements that agree on the parts agree
 module _ {A B R : Type 0} (g g' : A → B) (parts : A → List R) (P : R → Type 0) where
-  pub map_agrees : ((x : A) → AllByRecursion P (parts x) → g x ≡ g' x) → (xs : List A) → AllByRecursion P (flat_map parts xs) → map g xs ≡ map g' xs
+  pub map_agrees : ((x : A) → AllByRecursion P (parts x) → g x ≡ g' x) → (xs : List A)
+      → AllByRecursion P (flat_map parts xs) → map g xs ≡ map g' xs
   map_agrees each [] all = refl
   map_agrees each (x ∷ xs) all =
       let head : g x ≡ g' x = each x (all_left P (parts x) (flat_map parts xs) all) in
@@ -36,15 +38,21 @@ module _ {A B R : Type 0} (g g' : A → B) (parts : A → List R) (P : R → Typ
 
 -- a replacement that tells parts apart tells lists apart
 module _ {A B R : Type 0} (g : A → B) (parts : A → List R) (P Q : R → Type 0) where
-  pub map_told : ((x y : A) → AllByRecursion P (parts x) → AllByRecursion Q (parts y) → g x ≡ g y → x ≡ y) → (xs ys : List A) → AllByRecursion P (flat_map parts xs) → AllByRecursion Q (flat_map parts ys) → map g xs ≡ map g ys → xs ≡ ys
+  pub map_told : ((x y : A) → AllByRecursion P (parts x) → AllByRecursion Q (parts y) → g x ≡ g y → x ≡ y)
+      → (xs ys : List A) → AllByRecursion P (flat_map parts xs) → AllByRecursion Q (flat_map parts ys)
+      → map g xs ≡ map g ys → xs ≡ ys
   map_told each [] [] p q e = refl
   map_told each [] (y ∷ ys) p q e = (cc)
   map_told each (x ∷ xs) [] p q e = (cc)
   map_told each (x ∷ xs) (y ∷ ys) p q e =
       let heads : g x ≡ g y = (cc) in
       let tails : map g xs ≡ map g ys = (cc) in
-      let head : x ≡ y = each x y (all_left P (parts x) (flat_map parts xs) p) (all_left Q (parts y) (flat_map parts ys) q) heads in
-      let tail : xs ≡ ys = map_told each xs ys (all_right P (parts x) (flat_map parts xs) p) (all_right Q (parts y) (flat_map parts ys) q) tails in
+      let head : x
+      ≡ y = each x y (all_left P (parts x) (flat_map parts xs) p) (all_left Q (parts y) (flat_map parts ys) q)
+      heads in
+      let tail : xs
+      ≡ ys = map_told each xs ys (all_right P (parts x) (flat_map parts xs) p)
+      (all_right Q (parts y) (flat_map parts ys) q) tails in
       (cc)
 
 pub singles : {R : Type 0} → (xs : List R) → flat_map (λ (x : R). x ∷ []) xs ≡ xs

@@ -65,10 +65,24 @@ module _ {P P' S S' Q Q' R R' : Type 0} (p : P → P') (s : S → S') (q : Q →
   sig_map x = record { params = map param_map x.params; results = map param_map x.results; variadic = x.variadic }
 
   abbrev pub field_map : FieldOf P S Q R → FieldOf P' S' Q' R'
-  field_map x = record { origin = record { text = s x.origin.text; path = q x.origin.path }; pos = p x.pos; name = s x.name; type = r x.type; embedded = x.embedded; tag = s x.tag }
+  field_map x = record {
+    origin = record { text = s x.origin.text; path = q x.origin.path };
+    pos = p x.pos;
+    name = s x.name;
+    type = r
+        x.type;
+    embedded = x.embedded;
+    tag = s x.tag;
+  }
 
   abbrev pub method_map : MethodOf P S Q R → MethodOf P' S' Q' R'
-  method_map x = record { origin = record { text = s x.origin.text; path = q x.origin.path }; pos = p x.pos; name = s x.name; sig = sig_map x.sig }
+  method_map x = record {
+    origin = record { text = s x.origin.text; path = q x.origin.path };
+    pos = p x.pos;
+    name = s x.name;
+    sig =
+        sig_map x.sig;
+  }
 
   abbrev pub term_map : TermOf R → TermOf R'
   term_map x = record { tilde = x.tilde; type = r x.type }

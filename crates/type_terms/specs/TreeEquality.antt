@@ -4,8 +4,8 @@ use Rattle.std.specs.Prelude.{nat_eq}
 use Rattle.std.specs.Cmp.Lexicographic.{pointwise}
 use Rattle.std.proofs.lemmas.Bool.{and_parts, eqb-true}
 use Rattle.std.proofs.lemmas.Cmp.{nat_list_eq_equiv, nat_eq_equiv}
-use Rattle.go_values.proofs.Exact.{exact_bytes, exact_qname, exact_pos}
-use Rattle.code_tables.proofs.Exact.{exact_basic}
+use Rattle.go_values.specs.Exact.{exact_bytes, exact_qname, exact_pos}
+use Rattle.code_tables.specs.Exact.{exact_basic}
 use Rattle.go_values.specs.declared.qualified.QName.{QName}
 use Rattle.go_values.specs.declared.positions.Pos.{Pos}
 use Rattle.code_tables.specs.declared.predeclared.Basic.{Basic}
@@ -18,7 +18,10 @@ use Rattle.code_tables.specs.contracts.predeclared.BasicEq.TheImpl.Laws as basic
 use Rattle.type_terms.specs.declared.literals.Dir.{Dir}
 use Rattle.type_terms.specs.declared.literals.Dir.TheVariants.{Receive, Send, Both}
 use Rattle.type_terms.specs.Shapes.{OriginOf}
-use Rattle.type_terms.specs.Trees.{Text, Tree, predeclared, named, parameter, alias, pointer, slice, array, chan, map_type, func, struct, interface, instance, union, Trees, no_types, types, Params, no_params, params, Fields, no_fields, fields, Methods, no_methods, methods, Terms, no_terms, terms}
+use Rattle.type_terms.specs.Trees.{Text, Tree, predeclared, named, parameter, alias, pointer, slice, array, chan}
+use Rattle.type_terms.specs.Trees.{map_type, func, struct, interface, instance, union, Trees, no_types, types, Params}
+use Rattle.type_terms.specs.Trees.{no_params, params, Fields, no_fields, fields, Methods, no_methods, methods, Terms}
+use Rattle.type_terms.specs.Trees.{no_terms, terms}
 
 abbrev pub same_text : Text → Text → Bool
 same_text = pointwise nat_eq
@@ -57,7 +60,8 @@ abbrev mutual
   same_tree (array n x) (array m y) = nat_eq n m && same_tree x y
   same_tree (chan d x) (chan c y) = same_dir d c && same_tree x y
   same_tree (map_type k x) (map_type j y) = same_tree k j && same_tree x y
-  same_tree (func h ins outs v) (func g ins' outs' w) = same_text h g && (same_params ins ins' && (same_params outs outs' && same_flag v w))
+  same_tree (func h ins outs v) (func g ins' outs' w) = same_text h g
+      && (same_params ins ins' && (same_params outs outs' && same_flag v w))
   same_tree (struct h x) (struct g y) = same_text h g && same_fields x y
   same_tree (interface h ts x) (interface g us y) = same_text h g && (same_types ts us && same_methods x y)
   same_tree (instance x ts) (instance y us) = same_tree x y && same_types ts us
@@ -71,17 +75,21 @@ abbrev mutual
 
   pub same_params : Params → Params → Bool
   same_params no_params no_params = true
-  same_params (params p n x xs) (params q m y ys) = same_pos p q && (same_text n m && (same_tree x y && same_params xs ys))
+  same_params (params p n x xs) (params q m y ys) = same_pos p q
+      && (same_text n m && (same_tree x y && same_params xs ys))
   same_params _ _ = false
 
   pub same_fields : Fields → Fields → Bool
   same_fields no_fields no_fields = true
-  same_fields (fields o p n x e t xs) (fields r q m y f u ys) = same_origin o r && (same_pos p q && (same_text n m && (same_tree x y && (same_flag e f && (same_text t u && same_fields xs ys)))))
+  same_fields (fields o p n x e t xs) (fields r q m y f u ys) = same_origin o r
+      && (same_pos p q && (same_text n m && (same_tree x y && (same_flag e f && (same_text t u && same_fields xs ys)))))
   same_fields _ _ = false
 
   pub same_methods : Methods → Methods → Bool
   same_methods no_methods no_methods = true
-  same_methods (methods o p n ins outs v xs) (methods r q m ins' outs' w ys) = same_origin o r && (same_pos p q && (same_text n m && (same_params ins ins' && (same_params outs outs' && (same_flag v w && same_methods xs ys)))))
+  same_methods (methods o p n ins outs v xs) (methods r q m ins' outs' w ys) = same_origin o r
+      && (same_pos p q
+      && (same_text n m && (same_params ins ins' && (same_params outs outs' && (same_flag v w && same_methods xs ys)))))
   same_methods _ _ = false
 
   pub same_terms : Terms → Terms → Bool
@@ -186,9 +194,12 @@ mutual
   fields_told : (x y : Fields) → same_fields x y ≡ true → x ≡ y
   fields_told no_fields no_fields h = refl
   fields_told (fields o p n x e t xs) (fields r q m y f u ys) h =
-      let a = and_parts (same_origin o r) (same_pos p q && (same_text n m && (same_tree x y && (same_flag e f && (same_text t u && same_fields xs ys))))) h in
-      let b = and_parts (same_pos p q) (same_text n m && (same_tree x y && (same_flag e f && (same_text t u && same_fields xs ys)))) a.1 in
-      let c = and_parts (same_text n m) (same_tree x y && (same_flag e f && (same_text t u && same_fields xs ys))) b.1 in
+      let a = and_parts (same_origin o r) (same_pos p q
+      && (same_text n m && (same_tree x y && (same_flag e f && (same_text t u && same_fields xs ys))))) h in
+      let b = and_parts (same_pos p q) (same_text n m
+      && (same_tree x y && (same_flag e f && (same_text t u && same_fields xs ys)))) a.1 in
+      let c = and_parts (same_text n m) (same_tree x y && (same_flag e f && (same_text t u && same_fields xs ys))) b.1
+      in
       let d = and_parts (same_tree x y) (same_flag e f && (same_text t u && same_fields xs ys)) c.1 in
       let k = and_parts (same_flag e f) (same_text t u && same_fields xs ys) d.1 in
       let l = and_parts (same_text t u) (same_fields xs ys) k.1 in
@@ -205,9 +216,13 @@ mutual
   methods_told : (x y : Methods) → same_methods x y ≡ true → x ≡ y
   methods_told no_methods no_methods h = refl
   methods_told (methods o p n ins outs v xs) (methods r q m ins' outs' w ys) h =
-      let a = and_parts (same_origin o r) (same_pos p q && (same_text n m && (same_params ins ins' && (same_params outs outs' && (same_flag v w && same_methods xs ys))))) h in
-      let b = and_parts (same_pos p q) (same_text n m && (same_params ins ins' && (same_params outs outs' && (same_flag v w && same_methods xs ys)))) a.1 in
-      let c = and_parts (same_text n m) (same_params ins ins' && (same_params outs outs' && (same_flag v w && same_methods xs ys))) b.1 in
+      let a = and_parts (same_origin o r) (same_pos p q
+      && (same_text n m
+      && (same_params ins ins' && (same_params outs outs' && (same_flag v w && same_methods xs ys))))) h in
+      let b = and_parts (same_pos p q) (same_text n m
+      && (same_params ins ins' && (same_params outs outs' && (same_flag v w && same_methods xs ys)))) a.1 in
+      let c = and_parts (same_text n m) (same_params ins ins'
+      && (same_params outs outs' && (same_flag v w && same_methods xs ys))) b.1 in
       let d = and_parts (same_params ins ins') (same_params outs outs' && (same_flag v w && same_methods xs ys)) c.1 in
       let k = and_parts (same_params outs outs') (same_flag v w && same_methods xs ys) d.1 in
       let l = and_parts (same_flag v w) (same_methods xs ys) k.1 in
@@ -262,7 +277,8 @@ mutual
   same_itself (array n x) = both _ _ (nat_eq_equiv.refl n) (same_itself x)
   same_itself (chan d x) = both _ _ (dir_itself d) (same_itself x)
   same_itself (map_type k x) = both _ _ (same_itself k) (same_itself x)
-  same_itself (func h ins outs v) = both _ _ (text_itself h) (both _ _ (params_itself ins) (both _ _ (params_itself outs) (flag_itself v)))
+  same_itself (func h ins outs v) = both _ _ (text_itself h)
+      (both _ _ (params_itself ins) (both _ _ (params_itself outs) (flag_itself v)))
   same_itself (struct h x) = both _ _ (text_itself h) (fields_itself x)
   same_itself (interface h ts x) = both _ _ (text_itself h) (both _ _ (types_itself ts) (methods_itself x))
   same_itself (instance x ts) = both _ _ (same_itself x) (types_itself ts)
@@ -274,15 +290,22 @@ mutual
 
   params_itself : (x : Params) → same_params x x ≡ true
   params_itself no_params = refl
-  params_itself (params p n x xs) = both _ _ (pos_laws.laws-law.refl p) (both _ _ (text_itself n) (both _ _ (same_itself x) (params_itself xs)))
+  params_itself (params p n x xs) = both _ _ (pos_laws.laws-law.refl p)
+      (both _ _ (text_itself n) (both _ _ (same_itself x) (params_itself xs)))
 
   fields_itself : (x : Fields) → same_fields x x ≡ true
   fields_itself no_fields = refl
-  fields_itself (fields o p n x e t xs) = both _ _ (origin_itself o) (both _ _ (pos_laws.laws-law.refl p) (both _ _ (text_itself n) (both _ _ (same_itself x) (both _ _ (flag_itself e) (both _ _ (text_itself t) (fields_itself xs))))))
+  fields_itself (fields o p n x e t xs) = both _ _ (origin_itself o)
+      (both _ _ (pos_laws.laws-law.refl p)
+      (both _ _ (text_itself n)
+      (both _ _ (same_itself x) (both _ _ (flag_itself e) (both _ _ (text_itself t) (fields_itself xs))))))
 
   methods_itself : (x : Methods) → same_methods x x ≡ true
   methods_itself no_methods = refl
-  methods_itself (methods o p n ins outs v xs) = both _ _ (origin_itself o) (both _ _ (pos_laws.laws-law.refl p) (both _ _ (text_itself n) (both _ _ (params_itself ins) (both _ _ (params_itself outs) (both _ _ (flag_itself v) (methods_itself xs))))))
+  methods_itself (methods o p n ins outs v xs) = both _ _ (origin_itself o)
+      (both _ _ (pos_laws.laws-law.refl p)
+      (both _ _ (text_itself n)
+      (both _ _ (params_itself ins) (both _ _ (params_itself outs) (both _ _ (flag_itself v) (methods_itself xs))))))
 
   terms_itself : (x : Terms) → same_terms x x ≡ true
   terms_itself no_terms = refl

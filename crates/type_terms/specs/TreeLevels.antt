@@ -1,8 +1,12 @@
 -- A tree is its one level, and a level is that of one tree.
 use Rattle.std.proofs.Common.{◌≡◌, List, [], ◌∷◌, refl, ap, sym, ◌∙◌}
 use Rattle.go_values.specs.declared.positions.Pos.{Pos}
-use Rattle.type_terms.specs.Shapes.{ParamOf, SigOf, FieldOf, MethodOf, TermOf, func_of, struct_of, interface_of, instance_of, union_of}
-use Rattle.type_terms.specs.Trees.{Text, Tree, func, struct, interface, instance, union, Trees, no_types, types, Params, no_params, params, Fields, no_fields, fields, Methods, no_methods, methods, Terms, no_terms, terms, Level, level_of, type_list, param_list, field_list, method_list, term_list, types_of, params_of, fields_of, methods_of, terms_of, tree_of}
+use Rattle.type_terms.specs.Shapes.{ParamOf, SigOf, FieldOf, MethodOf, TermOf, func_of, struct_of, interface_of}
+use Rattle.type_terms.specs.Shapes.{instance_of, union_of}
+use Rattle.type_terms.specs.Trees.{Text, Tree, func, struct, interface, instance, union, Trees, no_types, types, Params}
+use Rattle.type_terms.specs.Trees.{no_params, params, Fields, no_fields, fields, Methods, no_methods, methods, Terms}
+use Rattle.type_terms.specs.Trees.{no_terms, terms, Level, level_of, type_list, param_list, field_list, method_list}
+use Rattle.type_terms.specs.Trees.{term_list, types_of, params_of, fields_of, methods_of, terms_of, tree_of}
 
 types_back : (xs : List Tree) → type_list (types_of xs) ≡ xs
 types_back [] = refl
@@ -16,7 +20,13 @@ fields_back : (xs : List (FieldOf Pos Text Text Tree)) → field_list (fields_of
 fields_back [] = refl
 fields_back (x ∷ xs) = ap (λ rest. x ∷ rest) (fields_back xs)
 
-sig_back : (x : SigOf Pos Text Tree) → record { params = param_list (params_of x.params); results = param_list (params_of x.results); variadic = x.variadic } ≡ x
+sig_back : (x : SigOf Pos Text Tree)
+    → record {
+      params = param_list (params_of x.params);
+      results = param_list (params_of x.results);
+      variadic =
+          x.variadic;
+    } ≡ x
 sig_back x = λ i. record { params = params_back x.params i; results = params_back x.results i; variadic = x.variadic }
 
 methods_back : (xs : List (MethodOf Pos Text Text Tree)) → method_list (methods_of xs) ≡ xs
@@ -31,7 +41,8 @@ terms_back (x ∷ xs) = ap (λ rest. x ∷ rest) (terms_back xs)
 pub level_of-tree_of : (level : Level) → level_of (tree_of level) ≡ level
 level_of-tree_of (func_of home sig) = ap (func_of home) (sig_back sig)
 level_of-tree_of (struct_of home inner) = ap (struct_of home) (fields_back inner)
-level_of-tree_of (interface_of home embedded inner) = λ i. interface_of home (types_back embedded i) (methods_back inner i)
+level_of-tree_of (interface_of home embedded inner) = λ i.
+    interface_of home (types_back embedded i) (methods_back inner i)
 level_of-tree_of (instance_of base args) = ap (instance_of base) (types_back args)
 level_of-tree_of (union_of inner) = ap union_of (terms_back inner)
 level_of-tree_of _ = refl
@@ -46,7 +57,8 @@ params_again (params pos name type rest) = ap (params pos name type) (params_aga
 
 fields_again : (xs : Fields) → fields_of (field_list xs) ≡ xs
 fields_again no_fields = refl
-fields_again (fields origin pos name type embedded tag rest) = ap (fields origin pos name type embedded tag) (fields_again rest)
+fields_again (fields origin pos name type embedded tag rest) = ap (fields origin pos name type embedded tag)
+    (fields_again rest)
 
 methods_again : (xs : Methods) → methods_of (method_list xs) ≡ xs
 methods_again no_methods = refl

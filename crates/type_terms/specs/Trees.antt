@@ -5,7 +5,9 @@ use Rattle.code_tables.specs.declared.predeclared.Basic.{Basic}
 use Rattle.go_values.specs.declared.qualified.QName.{QName}
 use Rattle.go_values.specs.declared.positions.Pos.{Pos}
 use Rattle.type_terms.specs.declared.literals.Dir.{Dir}
-use Rattle.type_terms.specs.Shapes.{ParamOf, OriginOf, FieldOf, MethodOf, TermOf, Shape, predeclared_of, named_of, parameter_of, alias_of, pointer_of, slice_of, array_of, chan_of, map_of, func_of, struct_of, interface_of, instance_of, union_of}
+use Rattle.type_terms.specs.Shapes.{ParamOf, OriginOf, FieldOf, MethodOf, TermOf, Shape, predeclared_of, named_of}
+use Rattle.type_terms.specs.Shapes.{parameter_of, alias_of, pointer_of, slice_of, array_of, chan_of, map_of, func_of}
+use Rattle.type_terms.specs.Shapes.{struct_of, interface_of, instance_of, union_of}
 
 abbrev pub Text : Type 0
 Text = List ℕ
@@ -67,11 +69,18 @@ param_list (params pos name type rest) = record { pos = pos; name = name; type =
 
 abbrev pub field_list : Fields → List (FieldOf Pos Text Text Tree)
 field_list no_fields = []
-field_list (fields origin pos name type embedded tag rest) = record { origin = origin; pos = pos; name = name; type = type; embedded = embedded; tag = tag } ∷ field_list rest
+field_list (fields origin pos name type embedded tag rest) = record
+    { origin = origin; pos = pos; name = name; type = type; embedded = embedded; tag = tag } ∷ field_list rest
 
 abbrev pub method_list : Methods → List (MethodOf Pos Text Text Tree)
 method_list no_methods = []
-method_list (methods origin pos name ins outs variadic rest) = record { origin = origin; pos = pos; name = name; sig = record { params = param_list ins; results = param_list outs; variadic = variadic } } ∷ method_list rest
+method_list (methods origin pos name ins outs variadic rest) = record {
+  origin = origin;
+  pos = pos;
+  name = name;
+  sig = record
+      { params = param_list ins; results = param_list outs; variadic = variadic };
+} ∷ method_list rest
 
 abbrev pub term_list : Terms → List (TermOf Tree)
 term_list no_terms = []
@@ -87,7 +96,8 @@ level_of (slice type) = slice_of type
 level_of (array size type) = array_of size type
 level_of (chan dir type) = chan_of dir type
 level_of (map_type key type) = map_of key type
-level_of (func home ins outs variadic) = func_of home (record { params = param_list ins; results = param_list outs; variadic = variadic })
+level_of (func home ins outs variadic) = func_of home
+    (record { params = param_list ins; results = param_list outs; variadic = variadic })
 level_of (struct home parts) = struct_of home (field_list parts)
 level_of (interface home embedded parts) = interface_of home (type_list embedded) (method_list parts)
 level_of (instance base args) = instance_of base (type_list args)
@@ -107,7 +117,8 @@ fields_of (x ∷ rest) = fields x.origin x.pos x.name x.type x.embedded x.tag (f
 
 abbrev pub methods_of : List (MethodOf Pos Text Text Tree) → Methods
 methods_of [] = no_methods
-methods_of (x ∷ rest) = methods x.origin x.pos x.name (params_of x.sig.params) (params_of x.sig.results) x.sig.variadic (methods_of rest)
+methods_of (x ∷ rest) = methods x.origin x.pos x.name (params_of x.sig.params) (params_of x.sig.results) x.sig.variadic
+    (methods_of rest)
 
 abbrev pub terms_of : List (TermOf Tree) → Terms
 terms_of [] = no_terms

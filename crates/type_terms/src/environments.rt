@@ -3,7 +3,8 @@ ghost use Rattle.std.specs.List.{Contains};
 ghost use Rattle.go_values.specs.declared.qualified.QName.{QName as Name};
 ghost use Rattle.type_terms.specs.declared.descriptors.Node.{Node};
 ghost use Rattle.type_terms.specs.Arenas.{Extends};
-ghost use Rattle.type_terms.specs.Environments.{Entry, declared, IsProperDecl, Answers, AddsOnly, AsksOnly, entry_types};
+ghost use Rattle.type_terms.specs.Environments.{Entry, declared, IsProperDecl, Answers, AddsOnly, AsksOnly};
+ghost use Rattle.type_terms.specs.Environments.{entry_types};
 
 use crate::declarations::DeclNode;
 use crate::shared_nodes::Arena;
@@ -62,11 +63,14 @@ pub trait Env {
     fn package(&self, path: &[u8]) -> Option<&[u8]>
         ensures { option_map (λ name. name.now) result ≡ packages self.now path.now };
 
-    ghost finite: { (env : Self) (nodes : List Node) (q : Name) (entry : Entry) → entries env nodes q ≡ Some entry → Contains (names env) q };
+    ghost finite: { (env : Self) (nodes : List Node) (q : Name) (entry : Entry) → entries env nodes q ≡ Some entry
+        → Contains (names env) q };
 
-    ghost proper: { (env : Self) (nodes : List Node) (q : Name) (decl : _) → stands env nodes → entries env nodes q ≡ Some (declared decl) → IsProperDecl decl };
+    ghost proper: { (env : Self) (nodes : List Node) (q : Name) (decl : _) → stands env nodes
+        → entries env nodes q ≡ Some (declared decl) → IsProperDecl decl };
 
-    ghost stays: { (env : Self) (nodes more : List Node) → stands env nodes → stands env (nodes ++ more) × (entries env (nodes ++ more) ≡ entries env nodes) };
+    ghost stays: { (env : Self) (nodes more : List Node) → stands env nodes → stands env (nodes ++ more)
+        × (entries env (nodes ++ more) ≡ entries env nodes) };
 }
 
 /// The environment that has nothing.

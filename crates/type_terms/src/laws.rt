@@ -13,12 +13,14 @@ ghost use Rattle.type_terms.specs.Trees.{Tree, level_of};
 
 /// A node denotes the same tree however many nodes are added.
 pub fn nodes_keep_their_trees()
-    ensures { (nodes more : List Node) (number : ℕ) → number < length nodes → tree (nodes ++ more) number ≡ tree nodes number }
+    ensures { (nodes more : List Node) (number : ℕ) → number < length nodes
+        → tree (nodes ++ more) number ≡ tree nodes number }
 {}
 
 /// Two numbers of an arena denote the same tree only where they are equal.
 pub fn equal_trees_have_equal_numbers()
-    ensures { (nodes : List Node) → IsArena nodes → (m n : ℕ) → m < length nodes → n < length nodes → tree nodes m ≡ tree nodes n → m ≡ n }
+    ensures { (nodes : List Node) → IsArena nodes → (m n : ℕ) → m < length nodes → n < length nodes
+        → tree nodes m ≡ tree nodes n → m ≡ n }
 {}
 
 /// A type is larger than each of its parts, so what recurs on parts ends.
@@ -38,15 +40,21 @@ pub fn references_follow_the_parts()
 
 /// A test that the names pass, and with each name those that it refers to, is passed by all that are reached.
 pub fn reach_is_least()
-    ensures { (refs : Name → List Name) (starts : List Name) (test : Name → Bool) → ((q : Name) → Contains starts q → test q ≡ true) → ((from to : Name) → test from ≡ true → Contains (refs from) to → test to ≡ true) → (q : Name) → Reached refs starts q → test q ≡ true }
+    ensures { (refs : Name → List Name) (starts : List Name) (test : Name → Bool)
+        → ((q : Name) → Contains starts q → test q ≡ true)
+        → ((from to : Name) → test from ≡ true → Contains (refs from) to → test to ≡ true) → (q : Name)
+        → Reached refs starts q → test q ≡ true }
 {}
 
 /// What is reached from names that are reached is reached.
 pub fn reach_is_idempotent()
-    ensures { (refs : Name → List Name) (starts more : List Name) → ((q : Name) → Contains more q → Reached refs starts q) → (q : Name) → Reached refs more q → Reached refs starts q }
+    ensures { (refs : Name → List Name) (starts more : List Name)
+        → ((q : Name) → Contains more q → Reached refs starts q) → (q : Name) → Reached refs more q
+        → Reached refs starts q }
 {}
 
 /// From more names no fewer are reached.
 pub fn reach_is_monotone()
-    ensures { (refs : Name → List Name) (fewer more : List Name) → ((q : Name) → Contains fewer q → Contains more q) → (q : Name) → Reached refs fewer q → Reached refs more q }
+    ensures { (refs : Name → List Name) (fewer more : List Name) → ((q : Name) → Contains fewer q → Contains more q)
+        → (q : Name) → Reached refs fewer q → Reached refs more q }
 {}

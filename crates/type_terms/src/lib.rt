@@ -1,5 +1,5 @@
-//! The types, declarations and packages of Go as values: an arena of shared descriptors, whose nodes denote finite trees
-//! over qualified names, and the environments that give the declarations behind names.
+//! The types, declarations and packages of Go as values: an arena of shared descriptors, whose nodes denote finite
+//! trees over qualified names, and the environments that give the declarations behind names.
 #![tactic(auto)]
 
 mod declarations;
@@ -23,8 +23,8 @@ pub use laws::{
     parts_are_smaller, reach_is_idempotent, reach_is_least, reach_is_monotone,
     references_follow_the_parts,
 };
-pub use lists::{Fields, MethodList, Methods, Nodes, Params, Sequence, Terms};
+pub use lists::{Fields, MethodList, Methods, Nodes, Params, Terms};
 pub use literals::{Dir, Field, IMethod, Origin, ParamNode, Sig, Term};
 pub use node_numbers::NodeId;
 pub use overlay::Over;
-pub use shared_nodes::{Arena, ArenaError};
+pub use shared_nodes::{Arena, ArenaError, MAX_NODES};

@@ -1,4 +1,5 @@
-ghost use Rattle.std.specs.Prelude.{◌≡◌, ◌↔◌, true, false, ◌≢◌, ◌<◌, ◌≤◌, ◌^◌, ◌++◌, ◌∷◌, [], ℕ, Ok, Err, Some, IfOk, OnErr, OnOk, IsErrOf, IsTrue, IfSome, IfNone, length};
+ghost use Rattle.std.specs.Prelude.{◌≡◌, ◌↔◌, true, false, ◌≢◌, ◌<◌, ◌≤◌, ◌^◌, ◌++◌, ◌∷◌, [], ℕ, Ok, Err, Some, IfOk};
+ghost use Rattle.std.specs.Prelude.{OnErr, OnOk, IsErrOf, IsTrue, IfSome, IfNone, length};
 ghost use Rattle.type_terms.specs.Arenas.{IsNode, IsNew, AllBelow, IsArena, Extends, Inserted};
 ghost use Rattle.type_terms.specs.Denotation.{tree};
 ghost use Rattle.type_terms.specs.NodeShapes.{node_shape, children};
@@ -11,6 +12,9 @@ use crate::node_numbers::NodeId;
 use indexmap::IndexSet;
 use std::alloc::{AllocError, Global};
 use std::marker::Model;
+
+/// The most nodes that an arena may have.
+pub const MAX_NODES: u32 = 1 << 28;
 
 /// Why an arena takes no node.
 #[derive(Clone, Copy, Debug, PartialEq, Eq)]
@@ -31,18 +35,20 @@ pub struct Arena {
 impl Model for Arena {
     ghost use Rattle.std.specs.Prelude.{◌≤◌, length};
     ghost use Rattle.type_terms.specs.Arenas.{Contents, IsArena};
+    ghost use Rattle.type_terms.specs.declared.shared_nodes.TheConstants.{MAX_NODES};
 
     ghost Value = { Contents };
 
     ghost view = { λ arena. record { nodes = arena.nodes.keys; limit = arena.limit } };
 
-    ghost invariant = { λ arena. IsArena arena.nodes.keys × (length arena.nodes.keys ≤ arena.limit) × (arena.limit ≤ 268435456) };
+    ghost invariant = { λ arena. IsArena arena.nodes.keys × (length arena.nodes.keys ≤ arena.limit)
+        × (arena.limit ≤ MAX_NODES) };
 }
 
 impl Arena {
     /// An arena with no nodes, that may have as many as the limit. Takes no memory.
     pub fn new(alloc: Global, limit: u32) -> Arena
-        requires small { limit ≤ 2 ^ 28 }
+        requires small { limit ≤ MAX_NODES }
         ensures { result ≡ record { nodes = []; limit = limit } }
     {
         Arena {
@@ -56,7 +62,7 @@ impl Arena {
         ensures count { result ≡ length self.now.nodes }
         ensures arena { IsArena self.now.nodes }
         ensures within { length self.now.nodes ≤ self.now.limit }
-        ensures small { self.now.limit ≤ 2 ^ 28 }
+        ensures small { self.now.limit ≤ MAX_NODES }
     {
         self.nodes.len() as u32
     }
@@ -106,9 +112,12 @@ impl Arena {
         ensures denotes { IfOk result (λ id. tree self.new.nodes id ≡ tree_of (retype (tree self.old.nodes) (node_shape node))) }
         // an equal node is there
         ensures present { (id : ℕ) → IsNode self.old.nodes id node → (result ≡ Ok id) × (self.new ≡ self.old) }
-        ensures new { IsNew self.old.nodes node → IfOk result (λ id. (id ≡ length self.old.nodes) × (self.new.nodes ≡ self.old.nodes ++ node ∷ [])) }
-        ensures full { IsErrOf result ArenaError.Full → IsNew self.old.nodes node × (length self.old.nodes ≡ self.old.limit) }
-        ensures exact { IsNew self.old.nodes node → length self.old.nodes ≡ self.old.limit → result ≡ Err ArenaError.Full }
+        ensures new { IsNew self.old.nodes node
+            → IfOk result (λ id. (id ≡ length self.old.nodes) × (self.new.nodes ≡ self.old.nodes ++ node ∷ [])) }
+        ensures full { IsErrOf result ArenaError.Full → IsNew self.old.nodes node
+            × (length self.old.nodes ≡ self.old.limit) }
+        ensures exact { IsNew self.old.nodes node → length self.old.nodes ≡ self.old.limit
+            → result ≡ Err ArenaError.Full }
         ensures refused { OnErr result (self.new ≡ self.old) }
         ensures extends { Extends self.old self.new }
         ensures arena { IsArena self.new.nodes }

@@ -9,10 +9,10 @@ use Rattle.wire_bytes.specs.Reading.{Spot, onward, ◌>>=◌, bytes_at, place, R
 use Rattle.wire_bytes.specs.Begins.{Begins, IsPrefixCode}
 use Rattle.wire_bytes.specs.Whole.{IsGreatestLength, bound_of, in_range, code_of, small_limit, prefix_of, size_in, IsLong, IsShort, Whole, length_behind, with_sign, value_behind, value_of, judged, long_at, whole_at}
 use Rattle.wire_bytes.proofs.Spellings.{IsBytes, IsBytes-rest}
-use Rattle.wire_bytes.proofs.Texts.{IsBytes-drop}
-use Rattle.wire_bytes.proofs.Cursors.{byte_at_again, bytes_at_again}
-use Rattle.wire_bytes.proofs.PrefixCodes.{Found, prefix_code, signed_even, signed_odd}
-use Rattle.wire_bytes.proofs.Wholes.{few_behind, judged_fits, size_some, size_append}
+use Rattle.wire_bytes.proofs.TextLemmas.{IsBytes-drop}
+use Rattle.wire_bytes.proofs.CursorLemmas.{byte_at_again, bytes_at_again}
+use Rattle.wire_bytes.proofs.PrefixCodeLemmas.{Found, prefix_code, signed_even, signed_odd}
+use Rattle.wire_bytes.proofs.WholeLemmas.{few_behind, judged_fits, size_some, size_append}
 
 -- ---- what is spelled is read
 

@@ -10,7 +10,8 @@ Begins Spells bytes x rest = (front : List ℕ) × Spells front x × (bytes ≡ 
 pub record IsPrefixCode {X : Type 0} (Spells : List ℕ → X → Type 0) : Type 0 where
   pub one : (a b : List ℕ) (x : X) → Spells a x → Spells b x → a ≡ b
   pub prefix : (a b : List ℕ) (x y : X) → Spells a x → Spells (a ++ b) y → b ≡ []
-  pub front : (bytes rest others : List ℕ) (x y : X) → Begins Spells bytes x rest → Begins Spells bytes y others → (x ≡ y) × (rest ≡ others)
+  pub front : (bytes rest others : List ℕ) (x y : X) → Begins Spells bytes x rest → Begins Spells bytes y others
+      → (x ≡ y) × (rest ≡ others)
 
 -- a spelling of the value was added at the end
 abbrev pub Appends : {X : Type 0} → (List ℕ → X → Type 0) → List ℕ → X → List ℕ → Type 0

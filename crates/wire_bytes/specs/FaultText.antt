@@ -1,7 +1,8 @@
 -- The text of a fault.
 use Rattle.std.specs.Prelude.{ℕ, List, ◌++◌, codes, decimal}
 use Rattle.wire_bytes.specs.declared.fault.ByteFault.{ByteFault}
-use Rattle.wire_bytes.specs.declared.fault.ByteFault.TheVariants.{Ended, Number, Range, Tag, Order, Version, Wide, Float, NotConst, Trailing}
+use Rattle.wire_bytes.specs.declared.fault.ByteFault.TheVariants.{Ended, Number, Range, Tag, Order, Version, Wide}
+use Rattle.wire_bytes.specs.declared.fault.ByteFault.TheVariants.{Float, NotConst, Trailing}
 
 abbrev pub fault_text : ByteFault → List ℕ
 fault_text (Ended at) = codes "ended at " ++ decimal at

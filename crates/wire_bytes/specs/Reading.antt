@@ -1,6 +1,7 @@
 -- Reading from left to right: each reader takes what is left of a part, and gives a value and what is left after it, or
 -- the first fault.
-use Rattle.std.specs.Prelude.{◌≡◌, ℕ, zero, suc, ◌-◌, List, [], ◌∷◌, length, take, drop, Bool, true, false, Result, Ok, Err, Option, Some, None, nat_lt, if◌then◌else◌}
+use Rattle.std.specs.Prelude.{◌≡◌, ℕ, zero, suc, ◌-◌, List, [], ◌∷◌, length, take, drop, Bool, true, false, Result, Ok}
+use Rattle.std.specs.Prelude.{Err, Option, Some, None, nat_lt, if◌then◌else◌}
 use Rattle.wire_bytes.specs.declared.fault.ByteFault.{ByteFault}
 use Rattle.wire_bytes.specs.declared.fault.ByteFault.TheVariants as faults
 
@@ -54,10 +55,12 @@ byte_at s = byte_of s s.left
 
 -- the next n bytes
 abbrev pub bytes_at : ℕ → Spot → Result (List ℕ × Spot) ByteFault
-bytes_at n s = if nat_lt (length s.left) n then Err (faults.Ended s.end) else Ok (take n s.left, onward s (drop n s.left))
+bytes_at n s = if nat_lt (length s.left) n then Err (faults.Ended s.end)
+    else Ok (take n s.left, onward s (drop n s.left))
 
 -- n things one after the other, each read with what the one before it leaves to it
-unfoldable pub many : {X K : Type 0} → (K → Spot → Result (X × Spot) ByteFault) → (X → K) → ℕ → K → Spot → Result (List X × Spot) ByteFault
+unfoldable pub many : {X K : Type 0} → (K → Spot → Result (X × Spot) ByteFault) → (X → K) → ℕ → K → Spot
+    → Result (List X × Spot) ByteFault
 many one next zero k s = Ok ([], s)
 many one next (suc n) k s = do
   first ← one k s

@@ -1,5 +1,6 @@
 -- A string section that is made: texts in the order of their first mention, each once.
-use Rattle.std.specs.Prelude.{ℕ, zero, suc, ◌+◌, ◌/◌, ◌%◌, List, [], ◌∷◌, ◌++◌, length, Option, Some, None, nat_eq, nat_lt, is_some, if◌then◌else◌}
+use Rattle.std.specs.Prelude.{ℕ, zero, suc, ◌+◌, ◌/◌, ◌%◌, List, [], ◌∷◌, ◌++◌, length, Option, Some, None, nat_eq}
+use Rattle.std.specs.Prelude.{nat_lt, is_some, if◌then◌else◌}
 use Rattle.std.specs.Cmp.Lexicographic.{pointwise}
 use Rattle.std.specs.Option.{option_map}
 
@@ -24,7 +25,8 @@ section_of (t ∷ texts) = spelled_text t ++ section_of texts
 -- where in their section a text stands, if it is one of them: behind those before its first mention
 abbrev pub offset_in : List (List ℕ) → List ℕ → Option ℕ
 offset_in [] text = None
-offset_in (t ∷ texts) text = if pointwise nat_eq text t then Some 0 else option_map (λ o. length (spelled_text t) + o) (offset_in texts text)
+offset_in (t ∷ texts) text = if pointwise nat_eq text t then Some 0
+    else option_map (λ o. length (spelled_text t) + o) (offset_in texts text)
 
 -- the texts after one is mentioned: it is new and goes last, or it is there and they stay
 abbrev pub with_text : List (List ℕ) → List ℕ → List (List ℕ)

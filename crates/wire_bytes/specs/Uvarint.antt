@@ -1,17 +1,20 @@
 -- Numbers: the grammar of their spellings, and reading one from the front of some bytes.
-use Rattle.std.specs.Prelude.{◌≡◌, ℕ, zero, suc, ◌+◌, ◌-◌, ◌*◌, ◌^◌, ◌<◌, ◌≤◌, List, [], ◌∷◌, ◌++◌, length, Result, Ok, Err, nat_lt, if◌then◌else◌}
+use Rattle.std.specs.Prelude.{◌≡◌, ℕ, zero, suc, ◌+◌, ◌-◌, ◌*◌, ◌^◌, ◌<◌, ◌≤◌, List, [], ◌∷◌, ◌++◌, length, Result, Ok}
+use Rattle.std.specs.Prelude.{Err, nat_lt, if◌then◌else◌}
 use Rattle.wire_bytes.specs.declared.fault.ByteFault.{ByteFault}
 use Rattle.wire_bytes.specs.declared.fault.ByteFault.TheVariants as faults
 use Rattle.wire_bytes.specs.declared.number.Unspelled.{Unspelled}
 use Rattle.wire_bytes.specs.declared.number.Unspelled.TheVariants.{Cut, Wrong}
 use Rattle.wire_bytes.specs.Reading.{Spot, place, onward}
 
--- Groups of seven bits, the low ones first. A byte below 128 is the last group and stands for itself. Of a byte from 128
--- on the low seven bits count, and the bytes after it spell the rest, which isn't 0: so no number has two spellings.
+-- Groups of seven bits, the low ones first. A byte below 128 is the last group and stands for itself. Of a byte from
+-- 128 on the low seven bits count, and the bytes after it spell the rest, which isn't 0: so no number has two
+-- spellings.
 abbrev pub IsGroups : List ℕ → ℕ → Type 0
 IsGroups [] n = ⊥
 IsGroups (b ∷ []) n = (b < 128) × (n ≡ b)
-IsGroups (b ∷ c ∷ bs) n = (128 ≤ b) × (b < 256) × (high : ℕ) × (0 < high) × (n + 128 ≡ b + 128 * high) × IsGroups (c ∷ bs) high
+IsGroups (b ∷ c ∷ bs) n = (128 ≤ b) × (b < 256) × (high : ℕ) × (0 < high) × (n + 128 ≡ b + 128 * high)
+    × IsGroups (c ∷ bs) high
 
 -- the bytes spell the number, which has 64 bits
 pub record Uvarint (bytes : List ℕ) (n : ℕ) : Type 0 where

@@ -1,6 +1,8 @@
--- Whole constants of a type, which is signed or not, and whose values have at most so many bytes without their sign: 1, 2, 4
--- or 8, and 64 where no type is written.
-use Rattle.std.specs.Prelude.{◌≡◌, ℕ, ◌+◌, ◌-◌, ◌*◌, ◌/◌, ◌%◌, ◌^◌, ◌<◌, ◌≤◌, ℤ, pos, negsuc, neg_ℤ, unsigned_abs, Bool, true, false, ◌&&◌, ◌==◌, nat_lt, nat_le, if◌then◌else◌, IsTrue, ◌⊎◌, List, [], ◌∷◌, length, fold, slice_index, Result, Ok}
+-- Whole constants of a type, which is signed or not, and whose values have at most so many bytes without their sign: 1,
+-- 2, 4 or 8, and 64 where no type is written.
+use Rattle.std.specs.Prelude.{◌≡◌, ℕ, ◌+◌, ◌-◌, ◌*◌, ◌/◌, ◌%◌, ◌^◌, ◌<◌, ◌≤◌, ℤ, pos, negsuc, neg_ℤ, unsigned_abs, Bool}
+use Rattle.std.specs.Prelude.{true, false, ◌&&◌, ◌==◌, nat_lt, nat_le, if◌then◌else◌, IsTrue, ◌⊎◌, List, [], ◌∷◌}
+use Rattle.std.specs.Prelude.{length, fold, slice_index, Result, Ok}
 use Rattle.wire_bytes.specs.declared.fault.ByteFault.{ByteFault}
 use Rattle.wire_bytes.specs.declared.fault.ByteFault.TheVariants as faults
 use Rattle.wire_bytes.specs.Reading.{Spot, place, ◌>>=◌, demand, byte_at, bytes_at}
@@ -37,8 +39,8 @@ prefix_of true (negsuc n) len = 257 - 2 * len
 abbrev pub size_in : List ℕ → ℕ
 size_in bytes = fold (λ n b. n * 256 + b) 0 bytes
 
--- The bytes of a value's size stand behind their prefix. There is no shorter spelling: the highest byte isn't 0, and the code
--- is no byte of its own.
+-- The bytes of a value's size stand behind their prefix. There is no shorter spelling: the highest byte isn't 0, and
+-- the code is no byte of its own.
 pub record IsLong (signed : Bool) (max : ℕ) (bytes : List ℕ) (v : ℤ) : Type 0 where
   pub size : List ℕ
   pub spelled : bytes ≡ prefix_of signed v (length size) ∷ size
@@ -83,7 +85,8 @@ beyond max at prefix = if max == 64 then faults.Wide at else faults.Range at pre
 unfoldable pub judged : Bool → ℕ → ℕ → ℕ → List ℕ → Result ℤ ByteFault
 judged signed max at prefix size = do
   shortest ← demand (nat_lt 0 (slice_index size 0)) (faults.Number at)
-  long ← demand (nat_le (small_limit signed max) (code_of signed (value_behind signed prefix (size_in size)))) (faults.Number at)
+  long ← demand (nat_le (small_limit signed max) (code_of signed (value_behind signed prefix (size_in size))))
+      (faults.Number at)
   fits ← demand (in_range signed max (value_behind signed prefix (size_in size))) (beyond max at prefix)
   Ok (value_behind signed prefix (size_in size))
 
@@ -97,4 +100,5 @@ long_at signed max at prefix s = do
 abbrev pub whole_at : Bool → ℕ → Spot → Result (ℤ × Spot) ByteFault
 whole_at signed max s = do
   first ← byte_at s
-  if nat_lt first.0 (small_limit signed max) then Ok (value_of signed first.0, first.1) else long_at signed max (place s) first.0 first.1
+  if nat_lt first.0 (small_limit signed max) then Ok (value_of signed first.0, first.1)
+      else long_at signed max (place s) first.0 first.1

@@ -73,8 +73,8 @@ impl<'a> Cursor<'a> {
         }
     }
 
-    /// The next number, of 64 bits, in its shortest spelling: groups of seven bits, the low ones first, each byte but the
-    /// last with its top bit set.
+    /// The next number, of 64 bits, in its shortest spelling: groups of seven bits, the low ones first, each byte but
+    /// the last with its top bit set.
     pub fn uvarint(&mut self) -> Result<u64, ByteFault>
         ensures found { IfOk result (λ v. BeginsWith self.old.left v self.new.left) }
         ensures progress { OnOk result (length self.new.left < length self.old.left) }

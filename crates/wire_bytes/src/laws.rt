@@ -4,8 +4,8 @@ ghost use Rattle.std.specs.Prelude.{◌≡◌, ℕ, ◌<◌, ◌^◌, List, [], 
 ghost use Rattle.wire_bytes.specs.Uvarint.{Uvarint, BeginsWith, IsCutShort};
 ghost use Rattle.wire_bytes.specs.Text.{Text};
 
-/// Each number of 64 bits has exactly one spelling, and none begins another, so what was written is read again, whatever
-/// follows it.
+/// Each number of 64 bits has exactly one spelling, and none begins another, so what was written is read again,
+/// whatever follows it.
 pub fn one_number_spelling()
     ensures every { (n : ℕ) → n < 2 ^ 64 → (bytes : List ℕ) × Uvarint bytes n }
     ensures one { (a b : List ℕ) (n : ℕ) → Uvarint a n → Uvarint b n → a ≡ b }

@@ -9,8 +9,8 @@ use indexmap::IndexMap;
 use std::alloc::{AllocError, Global};
 use std::marker::Model;
 
-/// The texts of a string section, each once, in the order of their first mention. Contracts see the list of the texts. It
-/// keeps each text twice: in the section, and as the key by which it is found again.
+/// The texts of a string section, each once, in the order of their first mention. Contracts see the list of the texts.
+/// It keeps each text twice: in the section, and as the key by which it is found again.
 #[derive(Drop)]
 pub struct Strings {
     alloc: Global,
@@ -28,7 +28,8 @@ impl Model for Strings {
 
     ghost view = { λ s. map (λ e. e.0.items) s.offsets.entries };
 
-    ghost invariant = { λ s. let texts = map (λ e. e.0.items) s.offsets.entries in (s.bytes.items ≡ section_of texts) × ((text : List ℕ) → get_by (λ k. pointwise nat_eq text k.items) s.offsets ≡ offset_in texts text) };
+    ghost invariant = { λ s. let texts = map (λ e. e.0.items) s.offsets.entries in (s.bytes.items ≡ section_of texts)
+        × ((text : List ℕ) → get_by (λ k. pointwise nat_eq text k.items) s.offsets ≡ offset_in texts text) };
 }
 
 impl Strings {
@@ -50,13 +51,14 @@ impl Strings {
         self.bytes.as_slice()
     }
 
-    /// Where a text stands in the section, to which it is added at its first mention. Takes the time of hashing and copying
-    /// the text, however many there are.
+    /// Where a text stands in the section, to which it is added at its first mention. Takes the time of hashing and
+    /// copying the text, however many there are.
     pub fn add(&mut self, text: &[u8]) -> Result<u64, AllocError>
         ensures texts { OnOk result (self.new ≡ with_text self.old text.now) }
         ensures offset { IfOk result (λ o. offset_in self.new text.now ≡ Some o) }
         ensures stands { IfOk result (λ o. Text (section_of self.new) o text.now) }
-        ensures kept { OnOk result ((o : ℕ) (t : List ℕ) → Text (section_of self.old) o t → Text (section_of self.new) o t) }
+        ensures kept { OnOk result ((o : ℕ) (t : List ℕ) → Text (section_of self.old) o t
+            → Text (section_of self.new) o t) }
         ensures refused { OnErr result (self.new ≡ self.old) }
     {
         self.mention(text)

@@ -1,7 +1,9 @@
 //! The sizes, codes and prefixes of whole constants.
 
-ghost use Rattle.std.specs.Prelude.{◌≡◌, ◌==◌, ◌&&◌, ◌%◌, ◌<◌, ◌≤◌, ◌^◌, ◌∷◌, ℕ, length, drop, slice_index, is_some, IfOk, IfSome, IfNone, IsTrue, ◌↔◌};
-ghost use Rattle.wire_bytes.specs.Whole.{IsGreatestLength, Whole, in_range, bound_of, code_of, prefix_of, small_limit, size_in, length_behind, value_of, with_sign, judged, beyond};
+ghost use Rattle.std.specs.Prelude.{◌≡◌, ◌==◌, ◌&&◌, ◌%◌, ◌<◌, ◌≤◌, ◌^◌, ◌∷◌, ℕ, length, drop, slice_index, is_some};
+ghost use Rattle.std.specs.Prelude.{IfOk, IfSome, IfNone, IsTrue, ◌↔◌};
+ghost use Rattle.wire_bytes.specs.Whole.{IsGreatestLength, Whole, in_range, bound_of, code_of, prefix_of, small_limit};
+ghost use Rattle.wire_bytes.specs.Whole.{size_in, length_behind, value_of, with_sign, judged, beyond};
 
 use crate::fault::ByteFault;
 

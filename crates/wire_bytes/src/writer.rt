@@ -11,8 +11,8 @@ use crate::whole::spell_whole;
 use std::alloc::{AllocError, Global};
 use std::marker::Model;
 
-/// A growing list of bytes, to which numbers are added in their spellings. Contracts see the list. What is refused for want
-/// of memory adds nothing.
+/// A growing list of bytes, to which numbers are added in their spellings. Contracts see the list. What is refused for
+/// want of memory adds nothing.
 #[derive(Drop)]
 pub struct Writer {
     bytes: Vec<u8>,
@@ -78,8 +78,8 @@ impl Writer {
         self.put_uvarint(u64::from(flag))
     }
 
-    /// Adds a whole constant of a type, which is signed or not, and whose values have at most `max` bytes without their sign:
-    /// 1, 2, 4 or 8, and 64 for an untyped constant, which is signed.
+    /// Adds a whole constant of a type, which is signed or not, and whose values have at most `max` bytes without their
+    /// sign: 1, 2, 4 or 8, and 64 for an untyped constant, which is signed.
     pub fn put_whole(&mut self, value: i128, signed: bool, max: u8) -> Result<(), AllocError>
         requires length { IsGreatestLength max }
         requires untyped { max ≡ 64 → IsTrue signed }

@@ -10,8 +10,9 @@ ghost use Rattle.decl_reader.specs.Meant.{named_by};
 
 use crate::fault::DeclFault;
 use crate::table::Table;
+use go_values::Sequence;
 use std::alloc::Global;
-use type_terms::{Arena, Sequence};
+use type_terms::Arena;
 
 /// What stands in a block, with types as numbers. It is kept with types as nodes.
 pub(crate) trait Kept: Drop {

@@ -24,7 +24,8 @@ pub(crate) fn read_text(
     requires { length strings.now ≤ 16777216 }
     ensures inside { IfOk result (λ x. IsInside strings.now x.1) }
     ensures progress { OnOk result (length cursor.new.left < length cursor.old.left) }
-    ensures exact { GivesBy (λ f. Some f) (λ x. ((x.0, text_of strings.now x.1), cursor.new)) result (text_offset_at strings.now cursor.old) }
+    ensures exact { GivesBy (λ f. Some f) (λ x. ((x.0, text_of strings.now x.1), cursor.new)) result
+        (text_offset_at strings.now cursor.old) }
 {
     let at = cursor.place() as u64;
     let offset = cursor.uvarint()?;
@@ -61,7 +62,8 @@ fn read_entry(
     requires { length strings.now ≤ 16777216 }
     ensures inside { IfOk result (λ e. IsInside strings.now e.name) }
     ensures progress { OnOk result (length cursor.new.left < length cursor.old.left) }
-    ensures exact { GivesBy (λ f. Some f) (λ e. (entry_of strings.now e, cursor.new)) result (entry_at strings.now size (option_copied last.entry) cursor.old) }
+    ensures exact { GivesBy (λ f. Some f) (λ e. (entry_of strings.now e, cursor.new)) result
+        (entry_at strings.now size (option_copied last.entry) cursor.old) }
 {
     let at = cursor.place() as u64;
     let (_, name) = read_text(cursor, strings)?;
@@ -90,7 +92,8 @@ pub(crate) fn read_entries(
     requires { length strings.now ≤ 16777216 }
     ensures inside { IfOk result (λ v. AllByRecursion (λ e. IsInside strings.now e.name) v.items) }
     ensures progress { IfOk result (λ v. length v.items + length cursor.new.left ≤ length cursor.old.left) }
-    ensures exact { GivesBy fault_of (λ v. (map (entry_of strings.now) v.items, cursor.new)) result (entries_at strings.now size count cursor.old) }
+    ensures exact { GivesBy fault_of (λ v. (map (entry_of strings.now) v.items, cursor.new)) result
+        (entries_at strings.now size count cursor.old) }
 {
     let mut entries = Vec::new(alloc);
     let mut last: Option<&[u8]> = None;

@@ -48,7 +48,8 @@ fn read_package(
     ensures inside { IfOk result (λ p. IsPackageInside strings.now p) }
     ensures first { IfOk result (λ p. p.first ≡ first) }
     ensures progress { IfOk result (λ p. length p.entries.items + length cursor.new.left < length cursor.old.left) }
-    ensures exact { GivesBy fault_of (λ p. (package_of strings.now p, cursor.new)) result (package_at own.now strings.now size (option_copied last.entry) cursor.old) }
+    ensures exact { GivesBy fault_of (λ p. (package_of strings.now p, cursor.new)) result
+        (package_at own.now strings.now size (option_copied last.entry) cursor.old) }
 {
     let at = cursor.place() as u64;
     let (offset, path) = read_text(cursor, strings)?;
@@ -81,7 +82,8 @@ fn read_packages(
     ensures numbered { IfOk result (λ v. IsNumbered 0 v.items) }
     ensures few { IfOk result (λ v. length v.items ≤ length cursor.old.left) }
     ensures few_names { IfOk result (λ v. name_count v.items ≤ length cursor.old.left) }
-    ensures exact { GivesBy fault_of (λ v. (map (package_of strings.now) v.items, cursor.new)) result (packages_at own.now strings.now size count cursor.old) }
+    ensures exact { GivesBy fault_of (λ v. (map (package_of strings.now) v.items, cursor.new)) result
+        (packages_at own.now strings.now size count cursor.old) }
 {
     let mut packages = Vec::new(alloc);
     let mut first: u32 = 0;
@@ -110,7 +112,8 @@ pub(crate) fn read_index(
     ensures numbered { IfOk result (λ v. IsNumbered 0 v.items) }
     ensures few { IfOk result (λ v. length v.items ≤ length cursor.old.left) }
     ensures few_names { IfOk result (λ v. name_count v.items ≤ length cursor.old.left) }
-    ensures exact { GivesBy fault_of (λ v. (map (package_of strings.now) v.items, cursor.new)) result (index_at own.now strings.now size cursor.old) }
+    ensures exact { GivesBy fault_of (λ v. (map (package_of strings.now) v.items, cursor.new)) result
+        (index_at own.now strings.now size cursor.old) }
 {
     let at = cursor.place() as u64;
     let count = cursor.uvarint()?;

@@ -3,8 +3,8 @@ use Rattle.std.proofs.lemmas.List.{length-map}
 use Rattle.std.proofs.lemmas.Bool.{cases_eq}
 use Rattle.std.proofs.lemmas.Option.{slice_get-get_or}
 use Rattle.cycle_rules.specs.Paths.{Arrow}
-use Rattle.cycle_rules.proofs.Places.{at-map, at_within}
-use Rattle.cycle_rules.proofs.Ending.{on_cycle, off_cycle, strict_at}
+use Rattle.cycle_rules.proofs.PlaceLemmas.{at-map, at_within}
+use Rattle.cycle_rules.proofs.SearchLemmas.{on_cycle, off_cycle, strict_at}
 use Rattle.cycle_rules.proofs.components.first_on_cycle.Goals as goal
 
 -- an edge of the node whose targets these are

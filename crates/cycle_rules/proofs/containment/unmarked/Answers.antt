@@ -3,12 +3,12 @@ use Rattle.std.proofs.lemmas.List.{map-append}
 use Rattle.std.proofs.lemmas.Option.{slice_get_read}
 use Rattle.std.specs.declared.vec.Vec.{Vec}
 use Rattle.std.specs.declared.alloc.Global.{Global}
-use Rattle.cycle_rules.specs.declared.shapes.Shape.{Shape}
+use Rattle.cycle_rules.specs.declared.shapes.DeclShape.{DeclShape}
 use Rattle.cycle_rules.specs.Containment.{IsUnmarked}
-use Rattle.cycle_rules.proofs.Containing.{unmarked_more}
+use Rattle.cycle_rules.proofs.ContainmentLemmas.{unmarked_more}
 use Rattle.cycle_rules.proofs.containment.unmarked.Goals as goal
 
-pushed : (shapes : List Shape) (rows rows' : List (Vec Bool Global)) (row : Vec Bool Global) → rows' ≡ rows ++ row ∷ [] → IsUnmarked shapes (map (λ r. r.items) rows ++ row.items ∷ []) → IsUnmarked shapes (map (λ r. r.items) rows')
+pushed : (shapes : List DeclShape) (rows rows' : List (Vec Bool Global)) (row : Vec Bool Global) → rows' ≡ rows ++ row ∷ [] → IsUnmarked shapes (map (λ r. r.items) rows ++ row.items ∷ []) → IsUnmarked shapes (map (λ r. r.items) rows')
 pushed shapes rows rows' row e was = rw (e, map-append (λ r. r.items) rows (row ∷ [])) was
 
 pub loop-shape-preserved : goal.loop-shape-preserved

@@ -1,7 +1,7 @@
 use Rattle.std.proofs.Common.{◌≡◌, length, subst}
 use Rattle.cycle_rules.specs.declared.cycles.CycleKind.TheVariants.{Contains, Embeds, OfAlias, Constraint, Value}
 use Rattle.cycle_rules.specs.Cycles.{IsFirstCycle}
-use Rattle.cycle_rules.proofs.Ranking.{first_of_ranked, falls_each, none_yet, none_in_all, some_in_all}
+use Rattle.cycle_rules.proofs.RankLemmas.{first_of_ranked, falls_each, none_yet, none_in_all, some_in_all}
 use Rattle.cycle_rules.proofs.cycles.check_cycles.Goals as goal
 
 pub returns-in-Some-clause-found : goal.returns-in-Some-clause-found

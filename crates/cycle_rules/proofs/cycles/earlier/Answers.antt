@@ -1,4 +1,4 @@
-use Rattle.cycle_rules.proofs.Ranking.{still_found}
+use Rattle.cycle_rules.proofs.RankLemmas.{still_found}
 use Rattle.cycle_rules.proofs.cycles.earlier.Goals as goal
 
 pub returns-in_default : goal.returns-in_default

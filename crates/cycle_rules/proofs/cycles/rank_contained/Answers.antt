@@ -4,7 +4,7 @@ use Rattle.std.proofs.lemmas.Result.{IfOk-weaker}
 use Rattle.cycle_rules.specs.declared.cycles.CycleKind.TheVariants.{Contains}
 use Rattle.cycle_rules.specs.Paths.{Arrow}
 use Rattle.cycle_rules.specs.Cycles.{IsEdge, IsRanked}
-use Rattle.cycle_rules.proofs.Ranking.{ranked_contained, owned_within}
+use Rattle.cycle_rules.proofs.RankLemmas.{ranked_contained, owned_within}
 use Rattle.cycle_rules.proofs.cycles.rank_contained.Goals as goal
 
 pub rank_graph-requires-clause-graph : goal.rank_graph-requires-clause-graph

@@ -3,7 +3,7 @@ use Rattle.std.proofs.lemmas.List.{length-map}
 use Rattle.std.proofs.lemmas.Result.{IfOk-weaker}
 use Rattle.cycle_rules.specs.Paths.{Arrow}
 use Rattle.cycle_rules.specs.Cycles.{targets_of, IsEdge, IsRanked}
-use Rattle.cycle_rules.proofs.Ranking.{ranked_listed}
+use Rattle.cycle_rules.proofs.RankLemmas.{ranked_listed}
 use Rattle.cycle_rules.proofs.cycles.rank_listed.Goals as goal
 
 pub rank_graph-requires-clause-graph : goal.rank_graph-requires-clause-graph

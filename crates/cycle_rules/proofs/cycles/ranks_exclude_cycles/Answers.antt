@@ -1,5 +1,5 @@
 use Rattle.std.proofs.Common.{arith}
-use Rattle.cycle_rules.proofs.Reaching.{falls_along}
+use Rattle.cycle_rules.proofs.ReachesLemmas.{falls_along}
 use Rattle.cycle_rules.proofs.cycles.ranks_exclude_cycles.Goals as goal
 
 pub returns : goal.returns

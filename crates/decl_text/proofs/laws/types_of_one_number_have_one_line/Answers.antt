@@ -1,4 +1,4 @@
-use Rattle.decl_text.proofs.LineLaws.{numbers_have_lines}
+use Rattle.decl_text.proofs.LineLemmas.{numbers_have_lines}
 use Rattle.decl_text.proofs.laws.types_of_one_number_have_one_line.Goals as goal
 
 pub returns : goal.returns

@@ -1,7 +1,7 @@
 use Rattle.std.proofs.Common.{◌<◌, ◌++◌, ap, sym, ◌∙◌, subst, arith, length}
 use Rattle.type_terms.specs.Arenas.{AllBelow}
 use Rattle.decl_text.specs.Referring.{refer, node_count}
-use Rattle.decl_text.proofs.Joins.{joined_next, all_of_one, put_after}
+use Rattle.decl_text.proofs.JoinedLemmas.{joined_next, all_of_one, put_after}
 use Rattle.decl_text.proofs.pieces.put_joined.Goals as goal
 
 pub put-requires : goal.put-requires

@@ -1,7 +1,7 @@
 use Rattle.std.proofs.Common.{◌++◌, ap, sym, ◌∙◌}
 use Rattle.decl_text.specs.DeclText.{number_line}
-use Rattle.decl_text.proofs.Joins.{put_two}
-use Rattle.decl_text.proofs.Rendered.{lines_next}
+use Rattle.decl_text.proofs.JoinedLemmas.{put_two}
+use Rattle.decl_text.proofs.DeclTextLemmas.{lines_next}
 use Rattle.decl_text.proofs.rendering.put_number_lines.Goals as goal
 
 pub loop-number-preserved : goal.loop-number-preserved

@@ -6,8 +6,8 @@ use Rattle.decl_text.specs.Numbers.{number_all}
 use Rattle.decl_text.specs.NodeNumbers.{node_reference}
 use Rattle.decl_text.specs.DeclText.{first_line, number_lines, method_line, form_methods}
 use Rattle.decl_text.specs.PieceText.{described_decl}
-use Rattle.decl_text.proofs.Joins.{put_after}
-use Rattle.decl_text.proofs.Rendered.{rendered}
+use Rattle.decl_text.proofs.JoinedLemmas.{put_after}
+use Rattle.decl_text.proofs.DeclTextLemmas.{rendered}
 use Rattle.decl_text.proofs.rendering.render.Goals as goal
 
 pub returns : goal.returns

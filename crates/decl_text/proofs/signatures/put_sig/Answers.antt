@@ -8,7 +8,7 @@ use Rattle.type_terms.specs.NodeShapes.{param_shape}
 use Rattle.decl_text.specs.TypeText.{params_text, results_text, spread}
 use Rattle.decl_text.specs.PieceText.{described_params}
 use Rattle.decl_text.specs.Referring.{refer, node_count}
-use Rattle.decl_text.proofs.Joins.{on_ok_more, put_two}
+use Rattle.decl_text.proofs.JoinedLemmas.{on_ok_more, put_two}
 use Rattle.decl_text.proofs.signatures.put_sig.Goals as goal
 
 pub put_results-requires : goal.put_results-requires

@@ -4,7 +4,7 @@ use Rattle.type_terms.specs.Arenas.{AllBelow}
 use Rattle.type_terms.specs.Shapes.{param_types}
 use Rattle.type_terms.specs.NodeShapes.{param_shape}
 use Rattle.decl_text.specs.Referring.{refer, node_count}
-use Rattle.decl_text.proofs.Joins.{on_ok_more, put_after, all_of_front, all_of_one}
+use Rattle.decl_text.proofs.JoinedLemmas.{on_ok_more, put_after, all_of_front, all_of_one}
 use Rattle.decl_text.proofs.Fused.{params_types, spread_lines_of, no_spread_lines}
 use Rattle.decl_text.proofs.signatures.put_spread_list.Goals as goal
 

@@ -1,7 +1,7 @@
 use Rattle.std.proofs.Common.{◌++◌, ap, ◌∙◌}
 use Rattle.type_terms.specs.NodeShapes.{children}
-use Rattle.decl_text.proofs.Joins.{on_ok_more}
-use Rattle.decl_text.proofs.TaskSteps.{entered_at}
+use Rattle.decl_text.proofs.JoinedLemmas.{on_ok_more}
+use Rattle.decl_text.proofs.TaskLemmas.{entered_at}
 use Rattle.decl_text.proofs.walking.enter.Goals as goal
 
 pub returns : goal.returns

@@ -1,6 +1,6 @@
 use Rattle.std.proofs.Common.{◌++◌, ap, sym, ◌∙◌}
 use Rattle.decl_text.specs.Tasks.{entering}
-use Rattle.decl_text.proofs.TaskSteps.{entering_last}
+use Rattle.decl_text.proofs.TaskLemmas.{entering_last}
 use Rattle.decl_text.proofs.walking.enter_all.Goals as goal
 
 pub loop-id-preserved : goal.loop-id-preserved

@@ -5,7 +5,7 @@ use Rattle.type_terms.specs.Replaced.{all_right}
 use Rattle.decl_text.specs.Walks.{walk}
 use Rattle.decl_text.specs.Numbering.{numbers_at}
 use Rattle.decl_text.specs.Tasks.{task_node, entering}
-use Rattle.decl_text.proofs.TaskSteps.{IsWalking, AreInside, tasks_weight, walk_begins, step_falls, step_walks}
+use Rattle.decl_text.proofs.TaskLemmas.{IsWalking, AreInside, tasks_weight, walk_begins, step_falls, step_walks}
 use Rattle.decl_text.proofs.walking.number_types.Goals as goal
 
 pub loop-task-init : goal.loop-task-init

@@ -3,7 +3,7 @@ use Rattle.std.specs.List.{flat_map}
 use Rattle.type_terms.specs.Denotation.{tree}
 use Rattle.decl_text.specs.Walks.{walk}
 use Rattle.decl_text.specs.Numbering.{numbers_at, StandsIn}
-use Rattle.decl_text.proofs.TaskSteps.{IsWalking, tasks_weight}
+use Rattle.decl_text.proofs.TaskLemmas.{IsWalking, tasks_weight}
 use Rattle.decl_text.proofs.walking.number_types.Given as goal
 
 abbrev pub invariant-loop-task : goal.invariant-loop-task

@@ -1,5 +1,5 @@
 use Rattle.std.proofs.Common.{◌++◌, ap, ◌∙◌}
-use Rattle.decl_text.proofs.Joins.{on_ok_more, put_two}
+use Rattle.decl_text.proofs.JoinedLemmas.{on_ok_more, put_two}
 use Rattle.decl_text.proofs.Fused.{methods_types}
 use Rattle.decl_text.proofs.walking.push_items.Goals as goal
 

@@ -1,6 +1,6 @@
 use Rattle.std.proofs.Common.{◌∙◌}
 use Rattle.file_parts.specs.Paths.{texts_of}
-use Rattle.file_parts.proofs.PathNames.{among_is}
+use Rattle.file_parts.proofs.PathLemmas.{among_is}
 use Rattle.file_parts.proofs.parts.is_listed.Goals as goal
 
 pub returns : goal.returns

@@ -1,7 +1,7 @@
 use Rattle.std.proofs.Common.{List, ℕ, Option, ap, ◌∙◌}
 use Rattle.std.specs.Option.{option_and_then}
 use Rattle.file_parts.specs.Paths.{texts_of, path_for}
-use Rattle.file_parts.proofs.PathNames.{path_found, no_path}
+use Rattle.file_parts.proofs.PathLemmas.{path_found, no_path}
 use Rattle.file_parts.proofs.parts.path_at.Goals as goal
 
 pub returns-in_err-text_at-clause-none : goal.returns-in_err-text_at-clause-none

@@ -1,7 +1,7 @@
 use Rattle.std.proofs.Common.{ap, ◌∙◌}
 use Rattle.std.specs.Option.{option_copied}
 use Rattle.file_parts.specs.Paths.{texts_of}
-use Rattle.file_parts.proofs.PathNames.{path_for_text, copied_then}
+use Rattle.file_parts.proofs.PathLemmas.{path_for_text, copied_then}
 use Rattle.file_parts.proofs.parts.path_for.Goals as goal
 
 pub returns : goal.returns

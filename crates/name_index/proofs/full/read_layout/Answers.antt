@@ -1,5 +1,5 @@
 use Rattle.std.proofs.Common.{arith}
-use Rattle.name_index.proofs.Answers.{is_envelope}
+use Rattle.name_index.proofs.EnvelopeLemmas.{is_envelope}
 use Rattle.name_index.proofs.full.read_layout.Goals as goal
 
 pub returns-clause-found : goal.returns-clause-found

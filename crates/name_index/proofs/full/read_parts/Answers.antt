@@ -5,8 +5,8 @@ use Rattle.name_index.specs.FullFile.{content}
 use Rattle.name_index.specs.FirstBreach.{header_at, index_at}
 use Rattle.name_index.specs.Records.{header_of, section_of, package_of}
 use Rattle.name_index.specs.declared.records.PackageRecord.{PackageRecord}
-use Rattle.name_index.proofs.Files.{paths_read}
-use Rattle.name_index.proofs.Lent.{read_paths}
+use Rattle.name_index.proofs.FullFileLemmas.{paths_read}
+use Rattle.name_index.proofs.PartsLemmas.{read_paths}
 use Rattle.name_index.proofs.full.read_parts.Goals as goal
 
 pub returns-clause-paths : goal.returns-clause-paths

@@ -1,5 +1,5 @@
 use Rattle.std.proofs.lemmas.Result.{err_from_is_err_and}
-use Rattle.name_index.proofs.Answers.{is_no_file, is_open, is_found, is_only}
+use Rattle.name_index.proofs.EnvelopeLemmas.{is_no_file, is_open, is_found, is_only}
 use Rattle.name_index.proofs.image.read_full_file.Goals as goal
 
 pub returns-in_err-layout-clause-only : goal.returns-in_err-layout-clause-only

@@ -1,4 +1,4 @@
-use Rattle.name_index.proofs.Files.{one_envelope, one_breach, envelope_or_breach, never_both}
+use Rattle.name_index.proofs.FullFileLemmas.{one_envelope, one_breach, envelope_or_breach, never_both}
 use Rattle.name_index.proofs.laws.file_or_breach.Goals as goal
 
 pub returns-clause-either : goal.returns-clause-either

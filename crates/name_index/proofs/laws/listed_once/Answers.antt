@@ -1,4 +1,4 @@
-use Rattle.name_index.proofs.Sorted.{one_number}
+use Rattle.name_index.proofs.SortedLemmas.{one_number}
 use Rattle.name_index.proofs.laws.listed_once.Goals as goal
 
 pub returns : goal.returns

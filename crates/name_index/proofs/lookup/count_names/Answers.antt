@@ -1,5 +1,5 @@
 use Rattle.std.proofs.Common.{arith, ap, sym, length}
-use Rattle.name_index.proofs.Holders.{some_of_all, total}
+use Rattle.name_index.proofs.HolderLemmas.{some_of_all, total}
 use Rattle.name_index.proofs.lookup.count_names.Goals as goal
 
 pub overflow_cast-result : goal.overflow_cast-result

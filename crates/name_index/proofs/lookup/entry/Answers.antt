@@ -1,6 +1,6 @@
 use Rattle.std.proofs.Common.{get_or, sym}
 use Rattle.std.proofs.lemmas.Option.{slice_get-get_or}
-use Rattle.name_index.proofs.Holders.{entry_found, entry_missing}
+use Rattle.name_index.proofs.HolderLemmas.{entry_found, entry_missing}
 use Rattle.name_index.proofs.lookup.entry.Goals as goal
 
 pub returns-in_err-name : goal.returns-in_err-name

@@ -1,5 +1,5 @@
 use Rattle.std.proofs.Common.{sym, arith}
-use Rattle.name_index.proofs.Lookups.{first_heading, later_heading}
+use Rattle.name_index.proofs.LookupLemmas.{first_heading, later_heading}
 use Rattle.name_index.proofs.lookup.heading.Goals as goal
 use Rattle.name_index.proofs.lookup.heading.Goals.{then-k-eq0, else-k-eq0}
 

@@ -1,6 +1,6 @@
 use Rattle.std.proofs.Common.{leb, rules, arith}
 use Rattle.std.proofs.lemmas.List.Sorted.{IsPartitionedBy-leb, IsPartitionPoint-from_clause}
-use Rattle.name_index.proofs.Holders.{firsts_rise, is_holder, holds_none}
+use Rattle.name_index.proofs.HolderLemmas.{firsts_rise, is_holder, holds_none}
 use Rattle.name_index.proofs.lookup.holder_of.Goals as goal
 
 pub returns-then-after-eq0-clause-none : goal.returns-then-after-eq0-clause-none

@@ -1,6 +1,6 @@
 use Rattle.std.proofs.Common.{arith, ap, refl, length}
 use Rattle.std.proofs.lemmas.Option.{slice_get_read}
-use Rattle.name_index.proofs.Holders.{name_found, no_path, no_name, names_inside, names_rise, room, if_none}
+use Rattle.name_index.proofs.HolderLemmas.{name_found, no_path, no_name, names_inside, names_rise, room, if_none}
 use Rattle.name_index.proofs.lookup.look_up.Goals as goal
 
 pub returns-in_err-holder-clause-none : goal.returns-in_err-holder-clause-none

@@ -1,6 +1,6 @@
 use Rattle.std.proofs.Common.{arith, ap, sym, refl, length}
 use Rattle.std.proofs.lemmas.Option.{slice_get_read, slice_get_past}
-use Rattle.name_index.proofs.Holders.{some_of_all, count_here, count_nowhere}
+use Rattle.name_index.proofs.HolderLemmas.{some_of_all, count_here, count_nowhere}
 use Rattle.name_index.proofs.lookup.names.Goals as goal
 
 pub overflow_cast-result : goal.overflow_cast-result

@@ -1,7 +1,7 @@
 use Rattle.std.proofs.Common.{List, subst, sym}
 use Rattle.name_index.specs.declared.records.PackageRecord.{PackageRecord}
 use Rattle.name_index.specs.Records.{IsSearchable}
-use Rattle.name_index.proofs.Holders.{others_rise, no_other, other_found, if_none}
+use Rattle.name_index.proofs.HolderLemmas.{others_rise, no_other, other_found, if_none}
 use Rattle.name_index.proofs.lookup.package_of_path.Goals as goal
 
 pub find_titled-requires-clause-rising : goal.find_titled-requires-clause-rising

@@ -1,4 +1,4 @@
-use Rattle.position_codec.proofs.Readings.{position_code, place_back}
+use Rattle.position_codec.proofs.PositionLemmas.{position_code, place_back}
 use Rattle.position_codec.proofs.EveryPlace.{every_place}
 use Rattle.position_codec.proofs.laws.one_position_spelling.Goals as goal
 

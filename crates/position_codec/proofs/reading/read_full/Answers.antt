@@ -2,7 +2,7 @@ use Rattle.std.proofs.Common.{List, ℕ, subst}
 use Rattle.position_codec.specs.Calls.{ReadsPosition}
 use Rattle.file_parts.specs.FileParts.{strings_of}
 use Rattle.position_codec.specs.Position.{position_at}
-use Rattle.position_codec.proofs.Readings.{spells_none}
+use Rattle.position_codec.proofs.PositionLemmas.{spells_none}
 use Rattle.position_codec.proofs.reading.read_full.Goals as goal
 
 pub returns-clause-none : goal.returns-clause-none

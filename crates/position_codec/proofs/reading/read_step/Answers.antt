@@ -2,7 +2,7 @@ use Rattle.std.proofs.Common.{◌≡◌, ◌≢◌, Some, None, true, false, sub
 use Rattle.wire_bytes.specs.Begins.{Begins}
 use Rattle.position_codec.specs.Place.{Place, Named, is_odd}
 use Rattle.position_codec.specs.Position.{Position}
-use Rattle.position_codec.proofs.Places.{Moves, column_stands, line_stands, file_stands}
+use Rattle.position_codec.proofs.PlaceLemmas.{Moves, column_stands, line_stands, file_stands}
 use Rattle.position_codec.proofs.reading.read_step.Goals as goal
 
 pub returns-then-not-is_odd-clause-found : goal.returns-then-not-is_odd-clause-found

@@ -1,6 +1,6 @@
 use Rattle.std.proofs.Common.{◌≡◌, ◌≢◌, arith, rules}
 use Rattle.wire_bytes.specs.Section.{section_of}
-use Rattle.position_codec.proofs.Written.{wrote_column, wrote_line, wrote_file}
+use Rattle.position_codec.proofs.WroteLemmas.{wrote_column, wrote_line, wrote_file}
 use Rattle.position_codec.proofs.writing.write_place.Goals as goal
 
 pub returns-then-ne-clause-written : goal.returns-then-ne-clause-written

@@ -1,6 +1,6 @@
 use Rattle.std.proofs.Common.{Ok, Err, OnErr}
 use Rattle.std.specs.Prelude.{Result}
-use Rattle.type_terms.proofs.Insertions.{inserted, new_from_missing}
+use Rattle.type_terms.proofs.InsertionLemmas.{inserted, new_from_missing}
 use Rattle.type_terms.proofs.shared_nodes.insert.Goals as goal
 
 on_err : {T E : Type 0} (result : Result T E) (P : Type 0) → P → OnErr result P

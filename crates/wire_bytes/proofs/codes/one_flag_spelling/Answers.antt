@@ -1,4 +1,4 @@
-use Rattle.wire_bytes.proofs.PrefixCodes.{every_flag, flag_code}
+use Rattle.wire_bytes.proofs.PrefixCodeLemmas.{every_flag, flag_code}
 use Rattle.wire_bytes.proofs.codes.one_flag_spelling.Goals as goal
 
 pub returns-clause-every : goal.returns-clause-every

@@ -1,4 +1,4 @@
-use Rattle.wire_bytes.proofs.PrefixCodes.{every_signed, varint_code}
+use Rattle.wire_bytes.proofs.PrefixCodeLemmas.{every_signed, varint_code}
 use Rattle.wire_bytes.proofs.codes.one_varint_spelling.Goals as goal
 
 pub returns-clause-every : goal.returns-clause-every

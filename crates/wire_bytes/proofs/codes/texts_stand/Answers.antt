@@ -1,4 +1,4 @@
-use Rattle.wire_bytes.proofs.Sections.{text_stands, text_stays}
+use Rattle.wire_bytes.proofs.SectionLemmas.{text_stands, text_stays}
 use Rattle.wire_bytes.proofs.codes.texts_stand.Goals as goal
 
 pub returns-clause-each : goal.returns-clause-each

@@ -1,4 +1,4 @@
-use Rattle.wire_bytes.proofs.Texts.{same_text}
+use Rattle.wire_bytes.proofs.TextLemmas.{same_text}
 use Rattle.wire_bytes.proofs.laws.one_text.Goals as goal
 
 pub returns : goal.returns

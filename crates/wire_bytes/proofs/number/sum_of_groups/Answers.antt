@@ -1,5 +1,5 @@
 use Rattle.std.proofs.Common.{◌+◌, ◌<◌, get_or, sym, arith}
-use Rattle.wire_bytes.proofs.Uvarints.{group_small, sum_small, next_small, goes_on, ends_whole, ends_zero, ends_cut, tenth_fits, ends_tenth, ends_tenth_wrong, rest_from}
+use Rattle.wire_bytes.proofs.UvarintLemmas.{group_small, sum_small, next_small, goes_on, ends_whole, ends_zero, ends_cut, tenth_fits, ends_tenth, ends_tenth_wrong, rest_from}
 use Rattle.wire_bytes.proofs.number.sum_of_groups.Goals as goal
 
 pub returns-then-i-bytes-clause-exact : goal.returns-then-i-bytes-clause-exact

@@ -1,4 +1,4 @@
-use Rattle.wire_bytes.proofs.Uvarints.{SoFar}
+use Rattle.wire_bytes.proofs.UvarintLemmas.{SoFar}
 use Rattle.wire_bytes.proofs.number.sum_of_groups.Given as goal
 
 abbrev pub invariant-loop-i : goal.invariant-loop-i

@@ -1,4 +1,4 @@
-use Rattle.wire_bytes.proofs.Sections.{added}
+use Rattle.wire_bytes.proofs.SectionLemmas.{added}
 use Rattle.wire_bytes.proofs.strings.append_text.Goals as goal
 
 pub returns-clause-added : goal.returns-clause-added

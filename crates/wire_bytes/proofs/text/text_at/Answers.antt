@@ -1,5 +1,5 @@
 use Rattle.std.proofs.Common.{arith}
-use Rattle.wire_bytes.proofs.Texts.{is_found, is_none}
+use Rattle.wire_bytes.proofs.TextLemmas.{is_found, is_none}
 use Rattle.wire_bytes.proofs.text.text_at.Goals as goal
 
 pub returns-clause-found : goal.returns-clause-found

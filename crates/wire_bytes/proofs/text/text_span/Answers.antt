@@ -1,5 +1,5 @@
 use Rattle.std.proofs.Common.{sym, arith}
-use Rattle.wire_bytes.proofs.Texts.{text_past, text_lies, text_short, no_number}
+use Rattle.wire_bytes.proofs.TextLemmas.{text_past, text_lies, text_short, no_number}
 use Rattle.wire_bytes.proofs.text.text_span.Goals as goal
 
 pub returns-then-offset-strings-clause-exact : goal.returns-then-offset-strings-clause-exact

@@ -1,5 +1,5 @@
 use Rattle.std.proofs.Common.{arith}
-use Rattle.wire_bytes.proofs.Wholes.{is_long}
+use Rattle.wire_bytes.proofs.WholeLemmas.{is_long}
 use Rattle.wire_bytes.proofs.whole.judge.Goals as goal
 
 pub returns-clause-spelled : goal.returns-clause-spelled

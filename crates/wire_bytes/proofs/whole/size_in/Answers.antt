@@ -1,4 +1,4 @@
-use Rattle.wire_bytes.proofs.Wholes.{size_large}
+use Rattle.wire_bytes.proofs.WholeLemmas.{size_large}
 use Rattle.wire_bytes.proofs.whole.size_in.Goals as goal
 
 pub returns-then-number-clause-large : goal.returns-then-number-clause-large

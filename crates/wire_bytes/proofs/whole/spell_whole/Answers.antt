@@ -3,7 +3,7 @@ use Rattle.std.specs.Int.{w128}
 use Rattle.std.specs.Prelude.{unsigned_abs}
 use Rattle.std.proofs.lemmas.Int.{to_z-of_z}
 use Rattle.wire_bytes.specs.Whole.{code_of, small_limit, with_sign}
-use Rattle.wire_bytes.proofs.Wholes.{abs-with_sign, size_some}
+use Rattle.wire_bytes.proofs.WholeLemmas.{abs-with_sign, size_some}
 use Rattle.wire_bytes.proofs.SpelledSizes.{spelled_short, spelled_long}
 use Rattle.wire_bytes.proofs.whole.spell_whole.Goals as goal
 

@@ -2,7 +2,7 @@ use Rattle.std.proofs.Common.{sym, ap, arith, ◌<◌, ◌∙◌, true≢false}
 use Rattle.std.specs.Option.{ok_or}
 use Rattle.wire_bytes.specs.Whole.{code_of, with_sign, small_limit}
 use Rattle.std.specs.Prelude.{slice_index}
-use Rattle.wire_bytes.proofs.Wholes.{judged_zero, ends_large, ends_short, ends_long, failed}
+use Rattle.wire_bytes.proofs.WholeLemmas.{judged_zero, ends_large, ends_short, ends_long, failed}
 use Rattle.wire_bytes.proofs.whole.value_of_size.Goals as goal
 
 pub returns-then-size-eq0 : goal.returns-then-size-eq0

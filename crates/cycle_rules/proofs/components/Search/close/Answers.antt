@@ -1,7 +1,7 @@
 use Rattle.std.proofs.Common.{rules, arith, ◌∙◌}
 use Rattle.cycle_rules.specs.declared.components.Mark.TheVariants.{Done}
-use Rattle.cycle_rules.proofs.Places.{at_within}
-use Rattle.cycle_rules.proofs.Closing.{kept_popped, closed_more, others_more, open_popped, count-closed}
+use Rattle.cycle_rules.proofs.PlaceLemmas.{at_within}
+use Rattle.cycle_rules.proofs.CloseLemmas.{kept_popped, closed_more, others_more, open_popped, count-closed}
 use Rattle.cycle_rules.proofs.components.Search.close.Goals as goal
 
 pub index_mut-requires : goal.index_mut-requires

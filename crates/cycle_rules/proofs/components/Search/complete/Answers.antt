@@ -2,8 +2,8 @@ use Rattle.std.proofs.Common.{◌≡◌, ℕ, ◌-◌, List, [], ◌∷◌, ◌+
 use Rattle.std.specs.Vec.{vec_len}
 use Rattle.cycle_rules.specs.declared.components.Bound.{Bound}
 use Rattle.cycle_rules.specs.Search.{edges_of, IsSearch}
-use Rattle.cycle_rules.proofs.Places.{front_last, at_within}
-use Rattle.cycle_rules.proofs.Finishing.{finished}
+use Rattle.cycle_rules.proofs.PlaceLemmas.{front_last, at_within}
+use Rattle.cycle_rules.proofs.CompleteLemmas.{finished}
 use Rattle.cycle_rules.proofs.components.Search.complete.Goals as goal
 
 fronts : (bounds rest : List Bound) (n : ℕ) (bound : Bound) → n ≡ length bounds → slice_get bounds (length bounds - 1) ≡ Some bound → rest ≡ take (n - 1) bounds → bounds ≡ rest ++ bound ∷ []

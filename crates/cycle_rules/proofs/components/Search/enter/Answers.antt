@@ -1,8 +1,8 @@
 use Rattle.std.proofs.Common.{ℕ, ◌<◌, List, length, arith}
 use Rattle.std.proofs.lemmas.List.{length-map}
 use Rattle.cycle_rules.specs.Search.{edges_of}
-use Rattle.cycle_rules.proofs.Places.{at-last, at-map}
-use Rattle.cycle_rules.proofs.Entering.{entered_as, count-opened}
+use Rattle.cycle_rules.proofs.PlaceLemmas.{at-last, at-map}
+use Rattle.cycle_rules.proofs.EnterLemmas.{entered_as, count-opened}
 use Rattle.cycle_rules.proofs.components.Search.enter.Goals as goal
 
 pub returns-clause-search : goal.returns-clause-search

@@ -3,8 +3,8 @@ use Rattle.std.proofs.lemmas.Option.{slice_get_read}
 use Rattle.cycle_rules.specs.Search.{edges_of, IsSearch, HasRoom}
 use Rattle.cycle_rules.specs.declared.components.Bound.{Bound}
 use Rattle.cycle_rules.specs.declared.components.Mark.TheVariants.{Open, Done}
-use Rattle.cycle_rules.proofs.Places.{at-last}
-use Rattle.cycle_rules.proofs.Following.{passed, joins}
+use Rattle.cycle_rules.proofs.PlaceLemmas.{at-last}
+use Rattle.cycle_rules.proofs.FollowLemmas.{passed, joins}
 use Rattle.cycle_rules.proofs.components.Search.follow.Goals as goal
 
 room : (bounds : List Bound) (pending rest : List ℕ) (node : ℕ) → pending ≡ rest ++ node ∷ [] → ((k : ℕ) (b : Bound) → slice_get bounds k ≡ Some b → b.pending < length pending) → HasRoom bounds rest

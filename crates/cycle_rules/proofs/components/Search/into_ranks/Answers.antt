@@ -1,7 +1,7 @@
 use Rattle.std.proofs.Common.{◌≡◌, map}
 use Rattle.std.proofs.lemmas.Result.{IfOk-weaker}
 use Rattle.cycle_rules.specs.Search.{edges_of, RanksComponents, rank_in}
-use Rattle.cycle_rules.proofs.Ending.{ends}
+use Rattle.cycle_rules.proofs.SearchLemmas.{ends}
 use Rattle.cycle_rules.proofs.components.Search.into_ranks.Goals as goal
 
 pub returns : goal.returns

@@ -1,7 +1,7 @@
 use Rattle.std.proofs.Common.{◌≡◌, ℕ, length, map, replicate, arith, ap, ◌∙◌, sym}
 use Rattle.std.proofs.lemmas.List.{length-map}
 use Rattle.cycle_rules.specs.declared.components.Mark.TheVariants.{New}
-use Rattle.cycle_rules.proofs.Ending.{started}
+use Rattle.cycle_rules.proofs.SearchLemmas.{started}
 use Rattle.cycle_rules.proofs.components.Search.new.Goals as goal
 
 pub returns-clause-search : goal.returns-clause-search

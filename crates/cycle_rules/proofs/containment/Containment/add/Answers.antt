@@ -1,8 +1,8 @@
 use Rattle.std.proofs.Common.{[], ◌∷◌, length, refl}
 use Rattle.cycle_rules.specs.declared.containment.Place.{Place}
 use Rattle.cycle_rules.specs.Containment.{marks_of, applications_of, edges_of}
-use Rattle.cycle_rules.proofs.Places.{at-left, at-last}
-use Rattle.cycle_rules.proofs.Containing.{added}
+use Rattle.cycle_rules.proofs.PlaceLemmas.{at-left, at-last}
+use Rattle.cycle_rules.proofs.ContainmentLemmas.{added}
 use Rattle.cycle_rules.proofs.containment.Containment.add.Goals as goal
 
 pub returns-clause-sound : goal.returns-clause-sound

@@ -1,8 +1,8 @@
 use Rattle.std.proofs.Common.{length, refl, arith}
 use Rattle.std.proofs.lemmas.Option.{slice_get_read}
 use Rattle.cycle_rules.specs.Containment.{IsPlaced}
-use Rattle.cycle_rules.proofs.Places.{at_within}
-use Rattle.cycle_rules.proofs.Containing.{only_twice, placed_grown, placed_more, size_more}
+use Rattle.cycle_rules.proofs.PlaceLemmas.{at_within}
+use Rattle.cycle_rules.proofs.ContainmentLemmas.{only_twice, placed_grown, placed_more, size_more}
 use Rattle.cycle_rules.proofs.containment.Containment.add_all.Goals as goal
 
 pub add-requires-clause-counts : goal.add-requires-clause-counts

@@ -6,9 +6,9 @@ use Rattle.cycle_rules.specs.declared.shapes.Form.{Form}
 use Rattle.cycle_rules.specs.declared.containment.Place.{Place}
 use Rattle.cycle_rules.specs.declared.containment.Containment.{Containment}
 use Rattle.cycle_rules.specs.Containment.{IsMarked, IsPlaced, GainsEntry, OnlyPlaces, marks_of, applications_of, edges_of}
-use Rattle.cycle_rules.proofs.Places.{at_within}
-use Rattle.cycle_rules.proofs.Fitting.{fits-Apply}
-use Rattle.cycle_rules.proofs.Containing.{counts_argument, applies, applies_handled, contained_as, handled_as}
+use Rattle.cycle_rules.proofs.PlaceLemmas.{at_within}
+use Rattle.cycle_rules.proofs.FitsLemmas.{fits-Apply}
+use Rattle.cycle_rules.proofs.ContainmentLemmas.{counts_argument, applies, applies_handled, contained_as, handled_as}
 use Rattle.cycle_rules.proofs.containment.Containment.add_application.Goals as goal
 
 pub add_contained-requires-clause-applied : goal.add_contained-requires-clause-applied

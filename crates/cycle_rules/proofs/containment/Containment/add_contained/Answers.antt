@@ -3,8 +3,8 @@ use Rattle.std.proofs.lemmas.Option.{slice_get_read}
 use Rattle.std.specs.declared.vec.Vec.{Vec}
 use Rattle.std.specs.declared.alloc.Global.{Global}
 use Rattle.cycle_rules.specs.Containment.{IsMarked, IsPlaced, marks_of}
-use Rattle.cycle_rules.proofs.Places.{at_within, at_some, at-map_of}
-use Rattle.cycle_rules.proofs.Containing.{only_twice, placed_grown, placed_more, size_more, size_passed, marked_read, unmarked_read}
+use Rattle.cycle_rules.proofs.PlaceLemmas.{at_within, at_some, at-map_of}
+use Rattle.cycle_rules.proofs.ContainmentLemmas.{only_twice, placed_grown, placed_more, size_more, size_passed, marked_read, unmarked_read}
 use Rattle.cycle_rules.proofs.containment.Containment.add_contained.Goals as goal
 
 -- the row of a declaration has an entry for each argument

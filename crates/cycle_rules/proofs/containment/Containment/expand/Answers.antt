@@ -1,8 +1,8 @@
 use Rattle.std.proofs.Common.{◌≡◌, List, sum_by, slice_get, Some, arith, ap, subst}
 use Rattle.cycle_rules.specs.declared.shapes.Form.{Form}
 use Rattle.cycle_rules.specs.Counting.{form_count}
-use Rattle.cycle_rules.proofs.Counting.{form_count-Apply, form_count-Parts, form_count-Held, form_count-Stop}
-use Rattle.cycle_rules.proofs.Containing.{counts_part}
+use Rattle.cycle_rules.proofs.FormCountLemmas.{form_count-Apply, form_count-Parts, form_count-Held, form_count-Stop}
+use Rattle.cycle_rules.proofs.ContainmentLemmas.{counts_part}
 use Rattle.cycle_rules.proofs.containment.Containment.expand.Goals as goal
 
 pub add_all-requires-clause-counts : goal.add_all-requires-clause-counts

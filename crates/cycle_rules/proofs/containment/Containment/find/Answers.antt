@@ -1,6 +1,6 @@
 use Rattle.std.proofs.Common.{length, refl, arith}
 use Rattle.std.proofs.lemmas.Option.{slice_get_read}
-use Rattle.cycle_rules.proofs.Containing.{owns_held}
+use Rattle.cycle_rules.proofs.ContainmentLemmas.{owns_held}
 use Rattle.cycle_rules.proofs.containment.Containment.find.Goals as goal
 
 pub handle-requires-clause-at : goal.handle-requires-clause-at

@@ -1,6 +1,6 @@
 use Rattle.std.proofs.Common.{arith, ap}
 use Rattle.cycle_rules.specs.Containment.{size_left}
-use Rattle.cycle_rules.proofs.Containing.{size_next}
+use Rattle.cycle_rules.proofs.ContainmentLemmas.{size_next}
 use Rattle.cycle_rules.proofs.containment.Containment.handle.Goals as goal
 
 pub returns-clause-size : goal.returns-clause-size

@@ -10,8 +10,8 @@ use Rattle.cycle_rules.specs.declared.containment.Containment.{Containment}
 use Rattle.cycle_rules.specs.declared.containment.Place.{Place}
 use Rattle.cycle_rules.specs.Forms.{Content, parameter, Owns}
 use Rattle.cycle_rules.specs.Containment.{IsMarked, IsListed, IsPlaced, IsSound, OnlyPlaces, Counts, marks_of, applications_of, edges_of}
-use Rattle.cycle_rules.proofs.Places.{at_within, at_some, at-map_of}
-use Rattle.cycle_rules.proofs.Containing.{only_twice, placed_grown, argument_within, argument_counts, argument_same, marks_more, count_marked, contained_as}
+use Rattle.cycle_rules.proofs.PlaceLemmas.{at_within, at_some, at-map_of}
+use Rattle.cycle_rules.proofs.ContainmentLemmas.{only_twice, placed_grown, argument_within, argument_counts, argument_same, marks_more, count_marked, contained_as}
 use Rattle.cycle_rules.proofs.containment.Containment.mark.Goals as goal
 
 rows_long : (s : Containment) (t : ℕ) {content : Content} → IsSound s → Owns s.shapes.now t content → t < length s.applications.items

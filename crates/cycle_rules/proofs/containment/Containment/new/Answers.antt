@@ -1,5 +1,5 @@
 use Rattle.std.proofs.Common.{map}
-use Rattle.cycle_rules.proofs.Containing.{begins}
+use Rattle.cycle_rules.proofs.ContainmentLemmas.{begins}
 use Rattle.cycle_rules.proofs.containment.Containment.new.Goals as goal
 
 pub returns-clause-sound : goal.returns-clause-sound

@@ -1,6 +1,6 @@
 use Rattle.std.proofs.Common.{length, map, slice_set, refl, ap, ◌∙◌}
 use Rattle.std.proofs.lemmas.Option.{slice_get_read}
-use Rattle.cycle_rules.proofs.Places.{at-map_of, map-set}
+use Rattle.cycle_rules.proofs.PlaceLemmas.{at-map_of, map-set}
 use Rattle.cycle_rules.proofs.containment.Containment.push_edge.Goals as goal
 
 pub returns-clause-edges : goal.returns-clause-edges

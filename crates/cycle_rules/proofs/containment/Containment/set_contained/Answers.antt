@@ -3,7 +3,7 @@ use Rattle.std.proofs.lemmas.List.{length-map}
 use Rattle.std.proofs.lemmas.Option.{slice_get_read}
 use Rattle.std.specs.declared.vec.Vec.{Vec}
 use Rattle.std.specs.declared.alloc.Global.{Global}
-use Rattle.cycle_rules.proofs.Places.{at_within, at-map_of, map-set}
+use Rattle.cycle_rules.proofs.PlaceLemmas.{at_within, at-map_of, map-set}
 use Rattle.cycle_rules.proofs.containment.Containment.set_contained.Goals as goal
 
 set_row : (rows : List (Vec Bool Global)) (t j : ℕ) (old new : Vec Bool Global) (row : List Bool) → old ≡ get_or rows t old → new.items ≡ slice_set old.items j true → slice_get (map (λ r. r.items) rows) t ≡ Some row → map (λ r. r.items) (slice_set rows t new) ≡ slice_set (map (λ r. r.items) rows) t (slice_set row j true)

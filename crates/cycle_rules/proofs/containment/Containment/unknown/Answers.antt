@@ -7,9 +7,9 @@ use Rattle.cycle_rules.specs.declared.containment.Containment.{Containment}
 use Rattle.cycle_rules.specs.declared.containment.Place.{Place}
 use Rattle.cycle_rules.specs.declared.shapes.Form.TheVariants.{Held}
 use Rattle.cycle_rules.specs.Containment.{IsMarked, IsSound, marks_of}
-use Rattle.cycle_rules.proofs.Places.{at_within, at-map_of}
-use Rattle.cycle_rules.proofs.Fitting.{fits-Held, same_Held}
-use Rattle.cycle_rules.proofs.Containing.{marked_read, unmarked_read}
+use Rattle.cycle_rules.proofs.PlaceLemmas.{at_within, at-map_of}
+use Rattle.cycle_rules.proofs.FitsLemmas.{fits-Held, same_Held}
+use Rattle.cycle_rules.proofs.ContainmentLemmas.{marked_read, unmarked_read}
 use Rattle.cycle_rules.proofs.containment.Containment.unknown.Goals as goal
 
 module _ (s : Containment) (sound : IsSound s) (place : Place) (at : slice_get s.places.items s.at ≡ Some place) where

@@ -1,6 +1,6 @@
 use Rattle.std.proofs.Common.{sym, ◌∙◌}
 use Rattle.indexmap.proofs.CallerLemmas.{insert_entry-new}
-use Rattle.decl_text.proofs.NodeFinished.{given, there_more}
+use Rattle.decl_text.proofs.NodeFinishLemmas.{given, there_more}
 use Rattle.decl_text.proofs.numbering.Numbering.finish.Goals as goal
 
 pub returns-clause-numbers : goal.returns-clause-numbers

@@ -2,7 +2,7 @@ use Rattle.std.proofs.Common.{◌||◌, ap, sym, ◌∙◌}
 use Rattle.std.specs.Prelude.{nat_eq}
 use Rattle.std.specs.Option.{is_some}
 use Rattle.std.specs.Map.{lookup}
-use Rattle.decl_text.proofs.NodeFinished.{settled_at}
+use Rattle.decl_text.proofs.NodeFinishLemmas.{settled_at}
 use Rattle.decl_text.proofs.numbering.Numbering.is_settled.Goals as goal
 
 pub returns-else-has_name-clause-settled : goal.returns-else-has_name-clause-settled

@@ -1,7 +1,7 @@
 use Rattle.std.proofs.Common.{◌++◌, ap, sym, ◌∙◌}
 use Rattle.decl_text.specs.NodeNumbers.{node_reference}
 use Rattle.decl_text.specs.PieceText.{node_line}
-use Rattle.decl_text.proofs.NodeFinished.{line_at}
+use Rattle.decl_text.proofs.NodeFinishLemmas.{line_at}
 use Rattle.decl_text.proofs.numbering.Numbering.line_of.Goals as goal
 
 pub returns : goal.returns

@@ -1,6 +1,6 @@
 use Rattle.std.proofs.Common.{ap, sym, ◌∙◌}
 use Rattle.std.specs.Option.{unwrap_or}
-use Rattle.decl_text.proofs.NodeNumbered.{number_at}
+use Rattle.decl_text.proofs.NodeNumberLemmas.{number_at}
 use Rattle.decl_text.proofs.references.References.number.Goals as goal
 
 pub returns-in-Some : goal.returns-in-Some

@@ -1,7 +1,7 @@
 use Rattle.std.proofs.Common.{ap, length, arith, ◌≡◌, ◌++◌, ◌∷◌, [], map}
 use Rattle.std.proofs.lemmas.Result.{err_from_is_err_and}
 use Rattle.std.proofs.lemmas.List.{map_push, length-append}
-use Rattle.wire_bytes.proofs.Many.{goes_on, fails, is_done}
+use Rattle.wire_bytes.proofs.ManyLemmas.{goes_on, fails, is_done}
 use Rattle.name_index.proofs.Lists.{all_pushed}
 use Rattle.name_index.specs.Records.{entry_of}
 use Rattle.name_index.proofs.full.entries.read_entries.Goals as goal

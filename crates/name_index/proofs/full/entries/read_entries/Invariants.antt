@@ -2,7 +2,7 @@ use Rattle.std.proofs.Common.{◌≡◌, ◌-◌, ◌+◌, ◌≤◌, Some, map,
 use Rattle.std.specs.Option.{option_copied}
 use Rattle.std.specs.List.{AllByRecursion}
 use Rattle.wire_bytes.specs.Reading.{many}
-use Rattle.wire_bytes.proofs.Many.{with_front}
+use Rattle.wire_bytes.proofs.ManyLemmas.{with_front}
 use Rattle.name_index.specs.FirstBreach.{entry_at, entries_at}
 use Rattle.file_parts.specs.Paths.{IsInside}
 use Rattle.name_index.specs.Records.{entry_of}

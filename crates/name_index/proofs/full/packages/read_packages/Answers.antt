@@ -1,7 +1,7 @@
 use Rattle.std.proofs.Common.{ap, length, ◌≡◌, ◌++◌, ◌∷◌, ◌+◌, [], length, ap, arith, map, ◌∙◌}
 use Rattle.std.proofs.lemmas.Result.{err_from_is_err_and}
 use Rattle.std.proofs.lemmas.List.{map_push, length-append}
-use Rattle.wire_bytes.proofs.Many.{goes_on, is_done}
+use Rattle.wire_bytes.proofs.ManyLemmas.{goes_on, is_done}
 use Rattle.name_index.proofs.Lists.{all_pushed, numbered_pushed, name_count-push}
 use Rattle.name_index.proofs.Loops.{ends}
 use Rattle.name_index.specs.Records.{package_of, name_count}

@@ -1,5 +1,5 @@
-use Rattle.name_index.proofs.Sorted.{searchable}
-use Rattle.name_index.proofs.Offsets.{number_below}
+use Rattle.name_index.proofs.SortedLemmas.{searchable}
+use Rattle.name_index.proofs.OffsetLemmas.{number_below}
 use Rattle.name_index.proofs.image.Image.entry.Goals as goal
 
 pub entry-requires : goal.entry-requires

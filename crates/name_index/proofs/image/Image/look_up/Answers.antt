@@ -1,5 +1,5 @@
-use Rattle.name_index.proofs.Sorted.{searchable}
-use Rattle.name_index.proofs.Offsets.{found_below}
+use Rattle.name_index.proofs.SortedLemmas.{searchable}
+use Rattle.name_index.proofs.OffsetLemmas.{found_below}
 use Rattle.name_index.proofs.image.Image.look_up.Goals as goal
 
 pub look_up-requires : goal.look_up-requires

@@ -1,7 +1,7 @@
 use Rattle.std.proofs.Common.{◌∙◌, sym, ap}
 use Rattle.name_index.specs.FullFile.{content}
 use Rattle.name_index.specs.Records.{section_of, name_count}
-use Rattle.name_index.proofs.Holders.{listed_count}
+use Rattle.name_index.proofs.HolderLemmas.{listed_count}
 use Rattle.name_index.proofs.image.Image.name_count.Goals as goal
 
 pub count_names-requires-clause-numbered : goal.count_names-requires-clause-numbered

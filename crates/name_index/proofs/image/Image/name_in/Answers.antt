@@ -1,4 +1,4 @@
-use Rattle.name_index.proofs.Offsets.{name_below}
+use Rattle.name_index.proofs.OffsetLemmas.{name_below}
 use Rattle.name_index.proofs.image.Image.name_in.Goals as goal
 
 pub returns-clause-inside : goal.returns-clause-inside

@@ -2,7 +2,7 @@ use Rattle.std.proofs.Common.{List, ◌∙◌, ap}
 use Rattle.name_index.specs.declared.records.PackageRecord.{PackageRecord}
 use Rattle.name_index.specs.FullFile.{content}
 use Rattle.name_index.specs.Records.{section_of}
-use Rattle.name_index.proofs.Holders.{entry_count, counts_are}
+use Rattle.name_index.proofs.HolderLemmas.{entry_count, counts_are}
 use Rattle.name_index.proofs.image.Image.names_in.Goals as goal
 
 pub returns : goal.returns

@@ -1,5 +1,5 @@
 use Rattle.std.proofs.Common.{refl}
-use Rattle.name_index.proofs.Lent.{parts_of, of_file}
+use Rattle.name_index.proofs.PartsLemmas.{parts_of, of_file}
 use Rattle.name_index.proofs.image.Image.parts.Goals as goal
 
 pub returns-clause-exact : goal.returns-clause-exact

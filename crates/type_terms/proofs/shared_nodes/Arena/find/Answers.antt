@@ -1,6 +1,6 @@
 use Rattle.std.proofs.Common.{sym}
 use Rattle.std.proofs.lemmas.Option.{slice_get_within}
-use Rattle.type_terms.proofs.Insertions.{new_from_missing, node_at_position}
+use Rattle.type_terms.proofs.InsertionLemmas.{new_from_missing, node_at_position}
 use Rattle.type_terms.proofs.shared_nodes.Arena.find.Goals as goal
 
 pub returns-in_err-place-clause-missing : goal.returns-in_err-place-clause-missing

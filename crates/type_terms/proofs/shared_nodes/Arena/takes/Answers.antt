@@ -1,6 +1,6 @@
 use Rattle.std.proofs.Common.{sym, ap, subst, ◌∙◌, arith}
 use Rattle.type_terms.specs.Arenas.{Contents, IsNode}
-use Rattle.type_terms.proofs.Insertions.{new_from_missing, node_from_found}
+use Rattle.type_terms.proofs.InsertionLemmas.{new_from_missing, node_from_found}
 use Rattle.type_terms.proofs.shared_nodes.Arena.takes.Goals as goal
 
 pub returns-else-len-self-clause-refuses : goal.returns-else-len-self-clause-refuses

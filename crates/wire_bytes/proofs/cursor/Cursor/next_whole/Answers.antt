@@ -5,7 +5,7 @@ use Rattle.std.specs.Prelude.{FitsSigned}
 use Rattle.wire_bytes.specs.Begins.{Begins}
 use Rattle.wire_bytes.specs.Reading.{Spot, byte_at, bytes_at}
 use Rattle.wire_bytes.specs.Whole.{Whole, small_limit, value_of}
-use Rattle.wire_bytes.proofs.Wholes.{found_short, found_long}
+use Rattle.wire_bytes.proofs.WholeLemmas.{found_short, found_long}
 use Rattle.wire_bytes.proofs.cursor.Cursor.next_whole.Goals as goal
 
 pub returns-then-from-small_limit-clause-found : goal.returns-then-from-small_limit-clause-found

@@ -1,5 +1,5 @@
 use Rattle.std.proofs.Common.{arith}
-use Rattle.wire_bytes.proofs.Sections.{is_standing, is_kept}
+use Rattle.wire_bytes.proofs.SectionLemmas.{is_standing, is_kept}
 use Rattle.wire_bytes.proofs.strings.Strings.add.Goals as goal
 
 pub returns-clause-stands : goal.returns-clause-stands

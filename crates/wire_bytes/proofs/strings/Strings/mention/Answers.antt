@@ -3,7 +3,7 @@ use Rattle.std.specs.Prelude.{nat_eq}
 use Rattle.std.specs.Cmp.Lexicographic.{pointwise}
 use Rattle.std.specs.Map.{lookup}
 use Rattle.wire_bytes.specs.Section.{with_text}
-use Rattle.wire_bytes.proofs.Sections.{IsNew, new_holds, new_texts, new_offset, entries_new}
+use Rattle.wire_bytes.proofs.SectionLemmas.{IsNew, new_holds, new_texts, new_offset, entries_new}
 use Rattle.wire_bytes.proofs.strings.Strings.mention.Goals as goal
 
 is_new : (c : goal.In-Ok) → IsNew c.self.inside.bytes.items c.append_text.new.bytes.items c.self.inside.offsets.entries c.insert.new.self.entries c.in_ok-key.key (length c.as_slice-offset.result.now) c.args.text.now
