@@ -1,27 +1,24 @@
 -- What the search for what is contained keeps, step by step.
-use Rattle.std.proofs.Common.{◌≡◌, ℕ, ◌+◌, ◌<◌, ◌≤◌, ◌⊎◌, List, [], ◌∷◌, ◌++◌, length, replicate, take, not, cond, count_by, sum_by, map, get_or, set, Bool, true, false, slice_get, Some, refl, sym, ap, ◌∙◌, subst, inl, inr, arith, length-append, length-set, length-take-le}
+use Rattle.std.proofs.Common.{Option, None, unwrap_or, IfSome, IfNone, ◌≡◌, ℕ, ◌+◌, ◌<◌, ◌≤◌, ◌⊎◌, List, [], ◌∷◌, ◌++◌, length, replicate, take, not, cond, count_by, sum_by, set, Bool, true, false, slice_get, Some, refl, sym, ap, ◌∙◌, subst, inl, inr, arith, length-append, length-set, length-take-le}
 use Rattle.std.proofs.Math.ListN.{length-replicate}
 use Rattle.std.proofs.lemmas.Bool.{cases_lt, cases_eq}
 use Rattle.std.proofs.lemmas.List.Sums.{sum_by_more, sum_by-drop_more, sum_by-set}
-use Rattle.std.proofs.lemmas.Option.{get_or_from_slice_get, slice_get_read}
-use Rattle.std.specs.declared.vec.Vec.{Vec}
-use Rattle.std.specs.declared.alloc.Global.{Global}
+use Rattle.std.proofs.lemmas.Option.{get_or_from_slice_get}
 use Rattle.cycle_rules.specs.Counting.{form_count}
 use Rattle.cycle_rules.specs.declared.shapes.Form.{Form}
 use Rattle.cycle_rules.specs.declared.shapes.Form.TheVariants.{Stop, Held, Apply, Parts}
 use Rattle.cycle_rules.specs.declared.shapes.DeclShape.{DeclShape}
 use Rattle.cycle_rules.specs.declared.containment.Place.{Place}
-use Rattle.cycle_rules.specs.declared.containment.Containment.{Containment}
 use Rattle.cycle_rules.specs.Paths.{Arrow}
 use Rattle.cycle_rules.specs.Forms.{Content, parameter, shape, Holds, held, applied, part, argument, Fits, Owns}
-use Rattle.cycle_rules.specs.Containment.{IsMarked, IsListed, IsPlaced, Counts, IsHandled, IsContainment, OnlyPlaces, size_left, count_unmarked, GainsEntry, IsUnmarked, AreWhole}
-use Rattle.cycle_rules.proofs.FitsLemmas.{fits-Apply, fits-Parts, same_Apply, not_Held_Apply, not_Parts_Apply}
-use Rattle.cycle_rules.proofs.PlaceLemmas.{at_within, at_some, at-replicate, at-map_of, at-left, at-last, at-push_cases, at-take, at-taken, at-set_same, at-set_other, at-pushed_old, at-pushed_new, at-pushed_cases, at-written_old, at-written_cases}
+use Rattle.cycle_rules.specs.Containment.{Findings, StandsAt, HasEntry, IsSound, IsFound, IsMarked, IsListed, IsPlaced, Counts, IsHandled, IsContainment, OnlyPlaces, size_left, count_unmarked, GainsEntry, IsUnmarked, AreWhole}
+use Rattle.cycle_rules.proofs.FitsLemmas.{fits-Apply, fits-Parts, fits-Held, same_Apply, not_Held_Apply, not_Parts_Apply}
+use Rattle.cycle_rules.proofs.PlaceLemmas.{at_within, at_some, at-replicate, at-left, at-last, at-push_cases, at-take, at-taken, at-set_same, at-set_other, at-pushed_old, at-pushed_new, at-pushed_cases, at-written_old, at-written_cases}
 
-pub only_twice : {old now new : Containment} → OnlyPlaces old now → OnlyPlaces now new → OnlyPlaces old new
+pub only_twice : {old now new : Findings} → OnlyPlaces old now → OnlyPlaces now new → OnlyPlaces old new
 only_twice first then = record {
   shapes = then.shapes ∙ first.shapes;
-  contained = then.contained ∙ first.contained;
+  marks = then.marks ∙ first.marks;
   at = then.at ∙ first.at;
   applications = then.applications ∙ first.applications;
   edges = then.edges ∙ first.edges;
@@ -51,23 +48,6 @@ size_more forms index item there places places' {at} {at'} size same new old =
 -- a form passed over changes nothing
 pub size_passed : (forms : List Form) (index n size : ℕ) → index < length forms → n ≤ size + sum_by form_count (take index forms) → n ≤ size + sum_by form_count (take (index + 1) forms)
 size_passed forms index n size below old = let more = sum_by_more form_count forms index Stop below in omega arith
-
--- an entry that was read as true
-pub marked_read : (rows : List (Vec Bool Global)) (t j : ℕ) (row : Vec Bool Global) (entry : Bool) → t < length rows → row ≡ get_or rows t row → j < length row.items → entry ≡ get_or row.items j entry → entry ≡ true → IsMarked (map (λ r. r.items) rows) t j
-marked_read rows t j row entry in_rows row_is in_row entry_is set =
-    let from = slice_get_read rows (length rows) t row refl in_rows row_is in
-    let to = slice_get_read row.items (length row.items) j entry refl in_row entry_is in
-    record { entries = row.items; from = at-map_of (λ r. r.items) rows t row from; to = to ∙ ap Some set }
-
--- an entry that was read as false
-pub unmarked_read : (rows : List (Vec Bool Global)) (t j : ℕ) (row : Vec Bool Global) (entry : Bool) → t < length rows → row ≡ get_or rows t row → j < length row.items → entry ≡ get_or row.items j entry → entry ≡ false → IsMarked (map (λ r. r.items) rows) t j → ⊥
-unmarked_read rows t j row entry in_rows row_is in_row entry_is unset mark =
-    let from = at-map_of (λ r. r.items) rows t row (slice_get_read rows (length rows) t row refl in_rows row_is) in
-    let to = slice_get_read row.items (length row.items) j entry refl in_row entry_is in
-    let there = mark.from in
-    let same : mark.entries ≡ row.items = cc in
-    let own : slice_get row.items j ≡ Some true = subst (λ (l : List Bool). slice_get l j ≡ Some true) same mark.to in
-    cc
 
 -- what counts in a form that counts
 pub counts_argument : (shapes : List DeclShape) (s t k : ℕ) (form inner : Form) (arguments : List Form) → Counts shapes s form → form ≡ Apply t arguments → Owns shapes t (parameter k) → slice_get arguments k ≡ Some inner → Counts shapes s inner
@@ -324,35 +304,62 @@ pub contained_as : {shapes shapes' : List DeclShape} {marks marks' : List (List 
     shapes' ≡ shapes → marks' ≡ marks → places' ≡ places → at' ≡ at → applications' ≡ applications → edges' ≡ edges → IsContainment shapes marks places at applications edges → IsContainment shapes' marks' places' at' applications' edges'
 contained_as a b c d e f search = rw (a, b, c, d, e, f) search
 
-pub handled_as : {marks marks' : List (List Bool)} {places places' : List Place} {applications applications' : List (List Place)} {edges edges' : List (List ℕ)} {place : Place} →
-    marks' ≡ marks → places' ≡ places → applications' ≡ applications → edges' ≡ edges → IsHandled marks places applications edges place → IsHandled marks' places' applications' edges' place
-handled_as a b c d was = rw (a, b, c, d) was
+-- an entry put at the end of a row stands there
+pub gains_listed : {old new : List (List Place)} {t : ℕ} {place : Place} → GainsEntry old new t place → IsListed new t place
+gains_listed {old} {new} {t} {place} gained = record {
+  places = gained.row ++ place ∷ [];
+  index = length gained.row;
+  from = subst (λ (l : List (List Place)). slice_get l t ≡ Some (gained.row ++ place ∷ [])) (sym gained.to) (at-pushed_new old t gained.row place gained.from);
+  to = at-last gained.row place;
+}
 
--- an application was handled: its arguments that count are placed, it is listed, and its owner has an edge
-module _ (shapes : List DeclShape) (marks : List (List Bool)) (places : List Place) (at : ℕ) (applications applications' : List (List Place)) (edges edges' : List (List ℕ))
-    (search : IsContainment shapes marks places at applications edges) (t : ℕ) (place : Place) (arguments : List Form)
-    (here : slice_get places at ≡ Some place) (formed : place.form.now ≡ Apply t arguments)
-    (passed : (j : ℕ) (form : Form) → IsMarked marks t j → slice_get arguments j ≡ Some form → IsPlaced places place.owner form)
-    (gained : GainsEntry applications applications' t place) (joined : GainsEntry edges edges' place.owner t) where
-  listing : IsContainment shapes marks places at (set applications t (gained.row ++ place ∷ [])) edges
-  listing = lists shapes marks places at applications edges search t gained.row place arguments gained.from at here formed passed (λ u others e. (same_Apply place.form.now u t others arguments e formed).1)
+pub gains_arrow : {old new : List (List ℕ)} {s t : ℕ} → GainsEntry old new s t → Arrow new s t
+gains_arrow {old} {new} {s} {t} gained = record {
+  targets = gained.row ++ t ∷ [];
+  place = length gained.row;
+  from = subst (λ (l : List (List ℕ)). slice_get l s ≡ Some (gained.row ++ t ∷ [])) (sym gained.to) (at-pushed_new old s gained.row t gained.from);
+  to = at-last gained.row t;
+}
 
-  listed_now : IsListed (set applications t (gained.row ++ place ∷ [])) t place
-  listed_now = listed_new shapes marks places at applications edges search t gained.row place arguments gained.from at here formed passed (λ u others e. (same_Apply place.form.now u t others arguments e formed).1)
+-- an application is handled when it is listed and its owner has an edge
+pub handled_apply : (s : Findings) (place : Place) (t : ℕ) (arguments : List Form) → place.form.now ≡ Apply t arguments
+    → Arrow s.edges place.owner t → IsListed s.applications t place → IsFound s place
+handled_apply s place t arguments formed arrow listed = record {
+  held = λ i e. absurd (not_Held_Apply place.form.now i t arguments formed e);
+  applied = λ u others e. subst (λ (n : ℕ). Arrow s.edges place.owner n) (same_Apply place.form.now t u arguments others formed e).0 arrow;
+  listed = λ u others e. subst (λ (n : ℕ). IsListed s.applications n place) (same_Apply place.form.now t u arguments others formed e).0 listed;
+  parts = λ all k form e there. absurd (not_Parts_Apply place.form.now t all arguments formed e);
+}
 
-  owns : Owns shapes place.owner (shape t)
-  owns = owns_applied shapes place.owner t place.form.now arguments (search.sound at place here) formed
+-- a declaration that is applied has a place of its own
+pub applied_within : (s : Findings) (place : Place) (t : ℕ) (arguments : List Form) → Counts s.shapes place.owner place.form.now
+    → place.form.now ≡ Apply t arguments → t < length s.shapes
+applied_within s place t arguments counts formed =
+    let fits = fits-Apply place.form.now t arguments formed counts.fits in
+    at_within s.shapes t fits.of fits.at
 
-  pub applies : IsContainment shapes marks places at applications' edges'
-  applies = contained_as refl refl refl refl gained.to joined.to (joins shapes marks places at (set applications t (gained.row ++ place ∷ [])) edges listing place.owner t joined.row joined.from owns)
+-- a parameter that counts has an entry
+pub held_within : (s : Findings) → IsSound s → (t i : ℕ) (form : Form) → Counts s.shapes t form → form ≡ Held i → HasEntry s.marks t i
+held_within s sound t i form counts is_held =
+    let w = at_within s.shapes t counts.owner counts.at in
+    let m = sound.marks_sized in
+    let row = at_some s.marks t (omega arith) in
+    let long = sound.rows_sized t row.0 counts.owner row.1 counts.at in
+    let below = fits-Held form i is_held counts.fits in
+    record { entries = row.0; from = row.1; within = omega arith }
 
-  pub applies_handled : IsHandled marks places applications' edges' place
-  applies_handled = handled_as refl refl gained.to joined.to (record {
-    held = λ i e. absurd (not_Held_Apply place.form.now i t arguments formed e);
-    applied = λ u others e. subst (λ (n : ℕ). Arrow (set edges place.owner (joined.row ++ t ∷ [])) place.owner n) (same_Apply place.form.now t u arguments others formed e).0 (arrow_new shapes marks places at (set applications t (gained.row ++ place ∷ [])) edges listing place.owner t joined.row joined.from owns);
-    listed = λ u others e. subst (λ (n : ℕ). IsListed (set applications t (gained.row ++ place ∷ [])) n place) (same_Apply place.form.now t u arguments others formed e).0 listed_now;
-    parts = λ all k form e there. absurd (not_Parts_Apply place.form.now t all arguments formed e);
-  })
+-- an entry that was read as false, or that isn't there, isn't marked
+pub unmarked_entry : (rows : List (List Bool)) (t j : ℕ) (o : Option Bool) → IfSome o (λ entry. StandsAt rows t j entry)
+    → IfNone o ((entry : Bool) → StandsAt rows t j entry → ⊥) → unwrap_or o false ≡ false → IsMarked rows t j → ⊥
+unmarked_entry rows t j (Some true) there none e mark = cc
+unmarked_entry rows t j (Some false) there none e mark = twice there.from mark.from there.to mark.to
+  where
+    twice : {entries others : List Bool} → slice_get rows t ≡ Some entries → slice_get rows t ≡ Some others → slice_get entries j ≡ Some false → slice_get others j ≡ Some true → ⊥
+    twice {entries} {others} a b c d =
+        let same : entries ≡ others = cc in
+        let own : slice_get others j ≡ Some false = subst (λ (l : List Bool). slice_get l j ≡ Some false) same c in
+        cc
+unmarked_entry rows t j None there none e mark = none true mark
 
 -- the next place is the first of those that are left
 pub size_next : (places : List Place) (at : ℕ) (place : Place) → slice_get places at ≡ Some place → size_left places at ≡ form_count place.form.now + size_left places (at + 1)

@@ -154,3 +154,9 @@ pub map-set : {A B : Type 0} (f : A → B) (xs : List A) (i : ℕ) (y : A) → m
 map-set f [] i y = refl
 map-set f (x ∷ xs) zero y = refl
 map-set f (x ∷ xs) (suc i) y = ap (λ l. f x ∷ l) (map-set f xs i y)
+
+-- writing what stands there changes nothing
+pub set_as_it_is : {X : Type 0} (xs : List X) (i : ℕ) (x : X) → slice_get xs i ≡ Some x → set xs i x ≡ xs
+set_as_it_is [] i x there = refl
+set_as_it_is (y ∷ xs) zero x there = let same : x ≡ y = cc in ap (λ z. z ∷ xs) same
+set_as_it_is (y ∷ xs) (suc i) x there = ap (λ l. y ∷ l) (set_as_it_is xs i x there)

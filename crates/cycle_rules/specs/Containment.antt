@@ -4,16 +4,21 @@ use Rattle.cycle_rules.specs.declared.shapes.Form.{Form}
 use Rattle.cycle_rules.specs.declared.shapes.Form.TheVariants.{Held, Apply, Parts}
 use Rattle.cycle_rules.specs.declared.shapes.DeclShape.{DeclShape}
 use Rattle.cycle_rules.specs.declared.containment.Place.{Place}
-use Rattle.cycle_rules.specs.declared.containment.Containment.{Containment}
+use Rattle.std.specs.declared.vec.Vec.{Vec}
+use Rattle.std.specs.declared.alloc.Global.{Global}
 use Rattle.cycle_rules.specs.Forms.{Content, parameter, shape, Holds, Fits, Owns}
 use Rattle.cycle_rules.specs.Counting.{form_count}
 use Rattle.cycle_rules.specs.Paths.{Arrow}
 
--- the entry of this row and column is true
-pub record IsMarked (rows : List (List Bool)) (row column : ℕ) : Type 0 where
-  pub entries : List Bool
+-- the table has this entry in this row and column
+pub record StandsAt {X : Type 0} (rows : List (List X)) (row column : ℕ) (entry : X) : Type 0 where
+  pub entries : List X
   pub from : slice_get rows row ≡ Some entries
-  pub to : slice_get entries column ≡ Some true
+  pub to : slice_get entries column ≡ Some entry
+
+-- the entry of this row and column is true
+abbrev pub IsMarked : List (List Bool) → ℕ → ℕ → Type 0
+IsMarked rows row column = StandsAt rows row column true
 
 -- the place stands in this row
 pub record IsListed (rows : List (List Place)) (row : ℕ) (place : Place) : Type 0 where
@@ -92,18 +97,53 @@ size_left places at = sum_by (λ p. form_count p.form.now) (drop at places)
 abbrev pub count_unmarked : List (List Bool) → ℕ
 count_unmarked marks = sum_by (λ row. count_by not row) marks
 
-abbrev pub marks_of : Containment → List (List Bool)
-marks_of s = map (λ row. row.items) s.contained.items
+-- the rows of a table
+abbrev pub rows_of : {X : Type 0} → List (Vec X Global) → List (List X)
+rows_of rows = map (λ row. row.items) rows
 
-abbrev pub applications_of : Containment → List (List Place)
-applications_of s = map (λ row. row.items) s.applications.items
+-- the table has an entry there
+pub record HasEntry {X : Type 0} (rows : List (List X)) (row column : ℕ) : Type 0 where
+  pub entries : List X
+  pub from : slice_get rows row ≡ Some entries
+  pub within : column < length entries
 
-abbrev pub edges_of : Containment → List (List ℕ)
-edges_of s = map (λ row. row.items) s.edges.items
+-- What a search has found: for each declaration which of its parameters it contains, the forms that count, how many of
+-- them were handled, and for each declaration the forms that apply it and the declarations that it contains.
+pub record Findings : Type 0 where
+  pub shapes : List DeclShape
+  pub marks : List (List Bool)
+  pub places : List Place
+  pub at : ℕ
+  pub applications : List (List Place)
+  pub edges : List (List ℕ)
 
 -- the search keeps what it should
-abbrev pub IsSound : Containment → Type 0
-IsSound s = IsContainment s.shapes.now (marks_of s) s.places.items s.at (applications_of s) (edges_of s)
+abbrev pub IsSound : Findings → Type 0
+IsSound s = IsContainment s.shapes s.marks s.places s.at s.applications s.edges
+
+-- what counts in this place was found
+abbrev pub IsFound : Findings → Place → Type 0
+IsFound s place = IsHandled s.marks s.places s.applications s.edges place
+
+-- a step left the next place where it was
+pub record IsNext (old new : Findings) (place : Place) : Type 0 where
+  pub shapes : new.shapes ≡ old.shapes
+  pub marks : new.marks ≡ old.marks
+  pub at : new.at ≡ old.at
+  pub here : slice_get new.places new.at ≡ Some place
+
+-- the place applies the declaration at t, and its arguments that count are among the places
+pub record Applies (s : Findings) (place : Place) (t : ℕ) : Type 0 where
+  pub arguments : List Form
+  pub formed : place.form.now ≡ Apply t arguments
+  pub owns : Owns s.shapes place.owner (shape t)
+  pub passed : (j : ℕ) (form : Form) → IsMarked s.marks t j → slice_get arguments j ≡ Some form
+      → IsPlaced s.places place.owner form
+
+-- each argument for this parameter is among the places
+abbrev pub ArePlaced : Findings → ℕ → ℕ → Type 0
+ArePlaced s t j = (place : Place) (arguments : List Form) (form : Form) → IsListed s.applications t place
+    → place.form.now ≡ Apply t arguments → slice_get arguments j ≡ Some form → IsPlaced s.places place.owner form
 
 -- one row of a table gained an entry at its end
 pub record GainsEntry {X : Type 0} (old new : List (List X)) (place : ℕ) (entry : X) : Type 0 where
@@ -112,11 +152,10 @@ pub record GainsEntry {X : Type 0} (old new : List (List X)) (place : ℕ) (entr
   pub to : new ≡ slice_set old place (row ++ entry ∷ [])
 
 -- a step left all places where they were, and all but places alone
-pub record OnlyPlaces (old new : Containment) : Type 0 where
+pub record OnlyPlaces (old new : Findings) : Type 0 where
   pub shapes : new.shapes ≡ old.shapes
-  pub contained : new.contained ≡ old.contained
+  pub marks : new.marks ≡ old.marks
   pub at : new.at ≡ old.at
   pub applications : new.applications ≡ old.applications
   pub edges : new.edges ≡ old.edges
-  pub places : (q : ℕ) (place : Place) → slice_get old.places.items q ≡ Some place
-      → slice_get new.places.items q ≡ Some place
+  pub places : (q : ℕ) (place : Place) → slice_get old.places q ≡ Some place → slice_get new.places q ≡ Some place

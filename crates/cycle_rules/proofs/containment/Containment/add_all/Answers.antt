@@ -5,12 +5,6 @@ use Rattle.cycle_rules.proofs.PlaceLemmas.{at_within}
 use Rattle.cycle_rules.proofs.ContainmentLemmas.{only_twice, placed_grown, placed_more, size_more}
 use Rattle.cycle_rules.proofs.containment.Containment.add_all.Goals as goal
 
-pub add-requires-clause-counts : goal.add-requires-clause-counts
-add-requires-clause-counts c =
-    let forms = c.args.forms.now in
-    let at = slice_get_read forms (length forms) c.loop-form.form-index c.form-item.result refl c.loop-form-test.true c.form-item.is in
-    rw c.loop-form.invariant.only.shapes (c.requires.counts c.loop-form.form-index c.form-item.result at)
-
 pub loop-form-preserved : goal.loop-form-preserved
 loop-form-preserved c =
     let forms = c.args.forms.now in
@@ -18,11 +12,10 @@ loop-form-preserved c =
     let now = c.in_ok-add.ensures.only in
     let at = slice_get_read forms (length forms) c.loop-form.form-index c.form-item.result refl c.loop-form-test.true c.form-item.is in
     record {
-      sound = c.in_ok-add.ensures.sound;
       only = only_twice was now;
-      placed = placed_more forms c.loop-form.form-index c.form-item.result at (λ k form. IsPlaced c.add.new.self.places.items c.args.owner form)
+      placed = placed_more forms c.loop-form.form-index c.form-item.result at (λ k form. IsPlaced c.add.new.self.places c.args.owner form)
           (λ k form below there. placed_grown _ _ c.args.owner form now.places (c.loop-form.invariant.placed k form below there)) c.in_ok-add.ensures.placed;
-      size = size_more forms c.loop-form.form-index c.form-item.result at c.loop-form.self.places.items c.add.new.self.places.items _ was.at c.in_ok-add.ensures.size c.loop-form.invariant.size;
+      size = size_more forms c.loop-form.form-index c.form-item.result at c.loop-form.self.places c.add.new.self.places _ was.at c.in_ok-add.ensures.size c.loop-form.invariant.size;
     }
 
 pub returns-clause-placed : goal.returns-clause-placed

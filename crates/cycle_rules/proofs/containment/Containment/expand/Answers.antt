@@ -5,12 +5,12 @@ use Rattle.cycle_rules.proofs.FormCountLemmas.{form_count-Apply, form_count-Part
 use Rattle.cycle_rules.proofs.ContainmentLemmas.{counts_part}
 use Rattle.cycle_rules.proofs.containment.Containment.expand.Goals as goal
 
-pub add_all-requires-clause-counts : goal.add_all-requires-clause-counts
-add_all-requires-clause-counts c k form at =
-    let self = c.args.self.now in
-    let counts = c.requires.sound.sound self.at c.args.place c.requires.at in
-    let there : slice_get c.in-Parts.parts k ≡ Some form = subst (λ (l : List Form). slice_get l k ≡ Some form) c.as_slice-in-Parts.ensures at in
-    counts_part self.shapes.now c.args.place.owner k c.args.place.form.now form c.in-Parts.parts counts c.in-Parts.is there
+pub add_all-requires : goal.add_all-requires
+add_all-requires c = record {
+  counts = λ k form at.
+      let there : slice_get c.in-Parts.parts k ≡ Some form = subst (λ (l : List Form). slice_get l k ≡ Some form) c.as_slice-in-Parts.ensures at in
+      counts_part c.args.self.now.shapes c.args.place.owner k c.args.place.form.now form c.in-Parts.parts c.requires.counts c.in-Parts.is there;
+}
 
 pub returns-in-Stop-clause-size : goal.returns-in-Stop-clause-size
 returns-in-Stop-clause-size c = omega (arith, ap form_count c.in-Stop.is, form_count-Stop)

@@ -1,13 +1,12 @@
 use Rattle.std.proofs.Common.{◌≡◌}
-use Rattle.cycle_rules.specs.Containment.{IsSound, size_left}
+use Rattle.cycle_rules.specs.Containment.{size_left}
 use Rattle.cycle_rules.proofs.containment.Containment.find.Given as goal
 
-abbrev pub invariant-loop-self : goal.invariant-loop-self
-invariant-loop-self l = record {
-  sound : IsSound l.self;
+abbrev pub invariant-loop-place : goal.invariant-loop-place
+invariant-loop-place l = record {
   shapes : l.self.shapes ≡ l.initial.self.shapes;
-  contained : l.self.contained ≡ l.initial.self.contained;
+  marks : l.self.marks ≡ l.initial.self.marks;
 }
 
-abbrev pub decreases-loop-self : goal.decreases-loop-self
-decreases-loop-self l = size_left l.self.places.items l.self.at
+abbrev pub decreases-loop-place : goal.decreases-loop-place
+decreases-loop-place l = size_left l.self.places l.self.at

@@ -1,184 +1,146 @@
-use Rattle.std.proofs.Common.{◌≡◌, ℕ, ◌+◌, ◌<◌, List, Bool, true, false, length, map, slice_get, get_or, Some, refl, arith, ap, sym, subst, inl, inr}
+use Rattle.std.proofs.Common.{◌≡◌, ℕ, ◌+◌, ◌<◌, List, Bool, true, false, length, slice_get, Some, refl, arith, ap, sym, subst, inl, inr}
 use Rattle.std.proofs.lemmas.Bool.{cases_eq}
-use Rattle.std.proofs.lemmas.List.{length-map}
 use Rattle.std.proofs.lemmas.Option.{slice_get_read}
-use Rattle.std.specs.declared.vec.Vec.{Vec}
-use Rattle.std.specs.declared.alloc.Global.{Global}
 use Rattle.cycle_rules.specs.declared.shapes.Form.{Form}
 use Rattle.cycle_rules.specs.declared.shapes.Form.TheVariants.{Apply}
-use Rattle.cycle_rules.specs.declared.containment.Containment.{Containment}
+use Rattle.cycle_rules.specs.declared.shapes.DeclShape.{DeclShape}
 use Rattle.cycle_rules.specs.declared.containment.Place.{Place}
-use Rattle.cycle_rules.specs.Forms.{Content, parameter, Owns}
-use Rattle.cycle_rules.specs.Containment.{IsMarked, IsListed, IsPlaced, IsSound, OnlyPlaces, Counts, marks_of, applications_of, edges_of}
-use Rattle.cycle_rules.proofs.PlaceLemmas.{at_within, at_some, at-map_of}
-use Rattle.cycle_rules.proofs.ContainmentLemmas.{only_twice, placed_grown, argument_within, argument_counts, argument_same, marks_more, count_marked, contained_as}
+use Rattle.cycle_rules.specs.Forms.{parameter, Owns}
+use Rattle.cycle_rules.specs.Containment.{Findings, StandsAt, HasEntry, IsSound, IsMarked, IsListed, IsPlaced, OnlyPlaces, Counts}
+use Rattle.cycle_rules.proofs.PlaceLemmas.{at_within, at_some}
+use Rattle.cycle_rules.proofs.ContainmentLemmas.{only_twice, placed_grown, argument_within, argument_counts, argument_same, count_marked}
 use Rattle.cycle_rules.proofs.containment.Containment.mark.Goals as goal
 
-rows_long : (s : Containment) (t : ℕ) {content : Content} → IsSound s → Owns s.shapes.now t content → t < length s.applications.items
-rows_long s t sound owns =
-    let w = at_within s.shapes.now t owns.owner owns.at in
-    let l = length-map s.applications.items (λ r. r.items) in
-    let a = sound.applications_sized in
-    omega arith
+-- one entry stands at a place of a table
+stands_once : {rows : List (List Place)} {t k : ℕ} {first second : Place} → StandsAt rows t k first → StandsAt rows t k second → first ≡ second
+stands_once {rows} {t} {k} {first} {second} one two = by one.from two.from one.to two.to
+  where
+    by : {row others : List Place} → slice_get rows t ≡ Some row → slice_get rows t ≡ Some others → slice_get row k ≡ Some first → slice_get others k ≡ Some second → first ≡ second
+    by {row} {others} a b c d =
+        let same : row ≡ others = cc in
+        let own : slice_get others k ≡ Some first = subst (λ (l : List Place). slice_get l k ≡ Some first) same c in
+        cc
 
-rows_of : (s : Containment) (t : ℕ) (row : Vec Place Global) → t < length s.applications.items → row ≡ get_or s.applications.items t row → slice_get (applications_of s) t ≡ Some row.items
-rows_of s t row below is = at-map_of (λ r. r.items) s.applications.items t row (slice_get_read s.applications.items (length s.applications.items) t row refl below is)
+-- each application up to a place has its argument among the places
+abbrev Placed : List (List Place) → List Place → ℕ → ℕ → ℕ → Type 0
+Placed rows places t j k = (p : Place) (xs : List Form) (form : Form) → StandsAt rows t k p → p.form.now ≡ Apply t xs → slice_get xs j ≡ Some form → IsPlaced places p.owner form
 
--- an entry that isn't marked is false
-entry_unset : (s : Containment) (t j : ℕ) (row : List Bool) → slice_get (marks_of s) t ≡ Some row → (entry : Bool) → slice_get row j ≡ Some entry → (IsMarked (marks_of s) t j → ⊥) → slice_get row j ≡ Some false
-entry_unset s t j row from true to unmarked = absurd (unmarked (record { entries = row; from = from; to = to }))
-entry_unset s t j row from false to unmarked = to
+one_more : (rows : List (List Place)) (places more : List Place) (t j k : ℕ) → ((s : ℕ) (form : Form) → IsPlaced places s form → IsPlaced more s form)
+    → ((i : ℕ) (p : Place) (xs : List Form) (form : Form) → i < k → StandsAt rows t i p → p.form.now ≡ Apply t xs → slice_get xs j ≡ Some form → IsPlaced places p.owner form)
+    → Placed rows more t j k
+    → (i : ℕ) (p : Place) (xs : List Form) (form : Form) → i < k + 1 → StandsAt rows t i p → p.form.now ≡ Apply t xs → slice_get xs j ≡ Some form → IsPlaced more p.owner form
+one_more rows places more t j k grown before here i p xs form below stands formed there = elim (cases_eq i k) [
+  | inl same ↦ here p xs form (subst (λ (n : ℕ). StandsAt rows t n p) same stands) formed there
+  | inr other ↦ grown p.owner form (before i p xs form (omega arith) stands formed there)
+]
 
--- what the loop reads, of a search that adds places to an old one
-module _ (old s : Containment) (t j : ℕ) (sound : IsSound s) (only : OnlyPlaces old s) (owned : Owns old.shapes.now t (parameter j)) (entries : (row : List Bool) × (slice_get (marks_of old) t ≡ Some row) × (j < length row)) where
-  owned_now : Owns s.shapes.now t (parameter j)
-  owned_now = rw only.shapes owned
+module _ (old s : Findings) (t j : ℕ) (sound : IsSound s) (only : OnlyPlaces old s) (owned : Owns old.shapes t (parameter j)) (entry : HasEntry old.marks t j) where
+  owned_now : Owns s.shapes t (parameter j)
+  owned_now = subst (λ (l : List DeclShape). Owns l t (parameter j)) (sym only.shapes) owned
 
-  entries_now : slice_get (marks_of s) t ≡ Some entries.0
-  entries_now = subst (λ (v : Vec (Vec Bool Global) Global). slice_get (map (λ r. r.items) v.items) t ≡ Some entries.0) (sym only.contained) entries.1
+  entry_now : HasEntry s.marks t j
+  entry_now = subst (λ (l : List (List Bool)). HasEntry l t j) (sym only.marks) entry
 
-  row_within : t < length s.applications.items
-  row_within =
-      let o = owned_now in
-      let w = at_within s.shapes.now t o.owner o.at in
-      let l = length-map s.applications.items (λ r. r.items) in
-      let a = sound.applications_sized in
-      omega arith
+  stands_now : (k : ℕ) (place : Place) → StandsAt old.applications t k place → StandsAt s.applications t k place
+  stands_now k place = subst (λ (l : List (List Place)). StandsAt l t k place) (sym only.applications)
 
-  same_row : (first row : Vec Place Global) → first ≡ get_or old.applications.items t first → row ≡ get_or s.applications.items t row → first ≡ row
-  same_row first row first_is row_is =
-      let first_now : first ≡ get_or s.applications.items t first = subst (λ (v : Vec (Vec Place Global) Global). first ≡ get_or v.items t first) (sym only.applications) first_is in
-      let a = slice_get_read s.applications.items (length s.applications.items) t first refl row_within first_now in
-      let b = slice_get_read s.applications.items (length s.applications.items) t row refl row_within row_is in
-      cc
+  module _ (k : ℕ) (place : Place) (stands : StandsAt s.applications t k place) (x : ℕ) (arguments : List Form) (formed : place.form.now ≡ Apply x arguments) where
+    listed : IsListed s.applications t place
+    listed = record { places = stands.entries; index = k; from = stands.from; to = stands.to }
 
-  module _ (row : Vec Place Global) (k : ℕ) (place : Place) (row_is : row ≡ get_or s.applications.items t row) (within : k < length row.items) (place_is : place ≡ get_or row.items k place) where
-    row_at : slice_get (applications_of s) t ≡ Some row.items
-    row_at = at-map_of (λ r. r.items) s.applications.items t row (slice_get_read s.applications.items (length s.applications.items) t row refl row_within row_is)
+    within_arguments : j < length arguments
+    within_arguments = argument_within s.shapes s.marks s.places s.at s.applications s.edges sound t j owned_now entry_now.entries entry_now.from entry_now.within place listed x arguments formed
 
-    place_at : slice_get row.items k ≡ Some place
-    place_at = slice_get_read row.items (length row.items) k place refl within place_is
+    counts : (form : Form) → slice_get arguments j ≡ Some form → Counts s.shapes place.owner form
+    counts = argument_counts s.shapes s.marks s.places s.at s.applications s.edges sound t j owned_now entry_now.entries entry_now.from entry_now.within place listed x arguments formed
 
-    listed : IsListed (applications_of s) t place
-    listed = record { places = row.items; index = k; from = row_at; to = place_at }
+    -- the one argument that stands there
+    placed_here : (places : List Place) (item : Form) → slice_get arguments j ≡ Some item → IsPlaced places place.owner item → Placed old.applications places t j k
+    placed_here places item at placed p xs form there e at_form =
+        let same = stands_once stands (stands_now k p there) in
+        let own : place.form.now ≡ Apply t xs = subst (λ (z : Place). z.form.now ≡ Apply t xs) (sym same) e in
+        let equal = argument_same s.shapes s.marks s.places s.at s.applications s.edges sound t j owned_now entry_now.entries entry_now.from entry_now.within place listed x arguments formed xs own in
+        let at_own : slice_get arguments j ≡ Some form = subst (λ (l : List Form). slice_get l j ≡ Some form) equal at_form in
+        let forms : item ≡ form = cc in
+        subst (λ (z : Place). IsPlaced places z.owner form) same (subst (λ (f : Form). IsPlaced places place.owner f) forms placed)
 
-    module _ (x : ℕ) (arguments : List Form) (formed : place.form.now ≡ Apply x arguments) where
-      within_arguments : j < length arguments
-      within_arguments = argument_within s.shapes.now (marks_of s) s.places.items s.at (applications_of s) _ sound t j owned_now entries.0 entries_now entries.2 place listed x arguments formed
+pub loop-at-preserved-in_default : goal.loop-at-preserved-in_default
+loop-at-preserved-in_default c =
+    let old = c.args.self.now in
+    let s = c.loop-at.self in
+    let only = c.loop-at.invariant.only in
+    record {
+      only = only;
+      placed = one_more old.applications s.places s.places c.args.owner c.args.index c.loop-at.at (λ u form was. was) c.loop-at.invariant.placed
+          (λ p xs form there e at. absurd (c.in_default.ensures.none p (stands_now old s c.args.owner c.args.index c.application.ensures.sound only c.requires.owns c.requires.within c.loop-at.at p there)));
+    }
 
-      counts : (form : Form) → slice_get arguments j ≡ Some form → Counts s.shapes.now place.owner form
-      counts = argument_counts s.shapes.now (marks_of s) s.places.items s.at (applications_of s) _ sound t j owned_now entries.0 entries_now entries.2 place listed x arguments formed
-
-      same : (others : List Form) → place.form.now ≡ Apply t others → others ≡ arguments
-      same = argument_same s.shapes.now (marks_of s) s.places.items s.at (applications_of s) _ sound t j owned_now entries.0 entries_now entries.2 place listed x arguments formed
-
-      -- the place's argument was added, and so each up to it
-      placed_up_to : (new : Containment) (item : Form) → slice_get arguments j ≡ Some item → IsPlaced new.places.items place.owner item → OnlyPlaces s new →
-          ((i : ℕ) (r : List Place) (p : Place) (xs : List Form) (form : Form) → i < k → slice_get (applications_of old) t ≡ Some r → slice_get r i ≡ Some p → p.form.now ≡ Apply t xs → slice_get xs j ≡ Some form → IsPlaced s.places.items p.owner form) →
-          (i : ℕ) (r : List Place) (p : Place) (xs : List Form) (form : Form) → i < k + 1 → slice_get (applications_of old) t ≡ Some r → slice_get r i ≡ Some p → p.form.now ≡ Apply t xs → slice_get xs j ≡ Some form → IsPlaced new.places.items p.owner form
-      placed_up_to new item here placed grown before i r p xs form below at_r at_p e there = elim (cases_eq i k) [
-        | inl equal ↦
-            let own_row = row_at in
-            let old_row : slice_get (applications_of s) t ≡ Some r = subst (λ (v : Vec (Vec Place Global) Global). slice_get (map (λ q. q.items) v.items) t ≡ Some r) (sym only.applications) at_r in
-            let rows : row.items ≡ r = cc in
-            let at_k : slice_get row.items k ≡ Some p = subst (λ (l : List Place). slice_get l k ≡ Some p) (sym rows) (subst (λ (n : ℕ). slice_get r n ≡ Some p) equal at_p) in
-            let own_place = place_at in
-            let places : place ≡ p = cc in
-            let xs_are = same xs (subst (λ (z : Place). z.form.now ≡ Apply t xs) (sym places) e) in
-            let there' : slice_get arguments j ≡ Some form = subst (λ (l : List Form). slice_get l j ≡ Some form) xs_are there in
-            let forms : item ≡ form = cc in
-            subst (λ (z : Place). IsPlaced new.places.items z.owner form) places (subst (λ (f : Form). IsPlaced new.places.items place.owner f) forms placed)
-        | inr other ↦ placed_grown s.places.items new.places.items p.owner form grown.places (before i r p xs form (omega arith) at_r at_p e there)
-      ]
+pub loop-at-preserved-in_default-form : goal.loop-at-preserved-in_default-form
+loop-at-preserved-in_default-form c =
+    let old = c.args.self.now in
+    let s = c.loop-at.self in
+    let only = c.loop-at.invariant.only in
+    record {
+      only = only;
+      placed = one_more old.applications s.places s.places c.args.owner c.args.index c.loop-at.at (λ u form was. was) c.loop-at.invariant.placed
+          (λ p xs form there e at.
+          let now = stands_now old s c.args.owner c.args.index c.application.ensures.sound only c.requires.owns c.requires.within c.loop-at.at p there in
+          let same = stands_once c.in-Some.ensures.found now in
+          absurd (c.in_default-form.not-Apply c.args.owner xs (subst (λ (z : Place). z.form.now ≡ Apply c.args.owner xs) (sym same) e)));
+    }
 
 pub bounds-as_slice-index : goal.bounds-as_slice-index
 bounds-as_slice-index c =
-    let old = c.args.self.now in
-    let s = c.loop-at.self in
-    let row = c.index-in-loop-at.result.now in
-    let place = c.index-place.result.now in
-    let sound = c.loop-at.invariant.sound in
-    let only = c.loop-at.invariant.only in
-    let rows = same_row old s c.args.owner c.args.index sound only c.requires.owns c.requires.within c.index.result.now row c.index.ensures c.index-in-loop-at.ensures in
-    let long = ap (λ (v : Vec Place Global). length v.items) rows in
-    let test = c.loop-at-test.true in
-    let below : c.loop-at.at < length row.items = omega (arith, c.len-at-end.ensures, c.index.result.now.ok.0) in
-    let found = within_arguments old s c.args.owner c.args.index sound only c.requires.owns c.requires.within row c.loop-at.at place c.index-in-loop-at.ensures below c.index-place.ensures c.in-Apply.field-0 c.in-Apply.arguments c.in-Apply.is in
+    let within = within_arguments c.args.self.now c.loop-at.self c.args.owner c.args.index c.application.ensures.sound c.loop-at.invariant.only c.requires.owns c.requires.within c.loop-at.at c.in-Some.place c.in-Some.ensures.found c.in-Apply.field-0 c.in-Apply.arguments c.in-Apply.is in
     omega (arith, ap length c.as_slice.ensures)
 
-pub add-requires-clause-counts : goal.add-requires-clause-counts
-add-requires-clause-counts c =
-    let old = c.args.self.now in
-    let s = c.loop-at.self in
-    let row = c.index-in-loop-at.result.now in
-    let place = c.index-place.result.now in
-    let sound = c.loop-at.invariant.sound in
-    let only = c.loop-at.invariant.only in
-    let rows = same_row old s c.args.owner c.args.index sound only c.requires.owns c.requires.within c.index.result.now row c.index.ensures c.index-in-loop-at.ensures in
-    let long = ap (λ (v : Vec Place Global). length v.items) rows in
-    let test = c.loop-at-test.true in
-    let below : c.loop-at.at < length row.items = omega (arith, c.len-at-end.ensures, c.index.result.now.ok.0) in
-    let found = within_arguments old s c.args.owner c.args.index sound only c.requires.owns c.requires.within row c.loop-at.at place c.index-in-loop-at.ensures below c.index-place.ensures c.in-Apply.field-0 c.in-Apply.arguments c.in-Apply.is in
+pub add-requires : goal.add-requires
+add-requires c =
+    let within = within_arguments c.args.self.now c.loop-at.self c.args.owner c.args.index c.application.ensures.sound c.loop-at.invariant.only c.requires.owns c.requires.within c.loop-at.at c.in-Some.place c.in-Some.ensures.found c.in-Apply.field-0 c.in-Apply.arguments c.in-Apply.is in
     let item : slice_get c.as_slice.result.now c.args.index ≡ Some c.index-as_slice-index.result =
     slice_get_read c.as_slice.result.now (length c.as_slice.result.now) c.args.index c.index-as_slice-index.result refl (omega (arith, ap length c.as_slice.ensures)) c.index-as_slice-index.is in
-    counts old s c.args.owner c.args.index sound only c.requires.owns c.requires.within row c.loop-at.at place c.index-in-loop-at.ensures below c.index-place.ensures c.in-Apply.field-0 c.in-Apply.arguments c.in-Apply.is
-    c.index-as_slice-index.result (subst (λ (l : List Form). slice_get l c.args.index ≡ Some c.index-as_slice-index.result) c.as_slice.ensures item)
+    record {
+      counts = counts c.args.self.now c.loop-at.self c.args.owner c.args.index c.application.ensures.sound c.loop-at.invariant.only c.requires.owns c.requires.within c.loop-at.at c.in-Some.place c.in-Some.ensures.found c.in-Apply.field-0 c.in-Apply.arguments c.in-Apply.is
+          c.index-as_slice-index.result (subst (λ (l : List Form). slice_get l c.args.index ≡ Some c.index-as_slice-index.result) c.as_slice.ensures item);
+    }
 
 pub loop-at-preserved : goal.loop-at-preserved
 loop-at-preserved c =
     let old = c.args.self.now in
     let s = c.loop-at.self in
-    let row = c.index-in-loop-at.result.now in
-    let place = c.index-place.result.now in
-    let sound = c.loop-at.invariant.sound in
-    let only = c.loop-at.invariant.only in
-    let rows = same_row old s c.args.owner c.args.index sound only c.requires.owns c.requires.within c.index.result.now row c.index.ensures c.index-in-loop-at.ensures in
-    let long = ap (λ (v : Vec Place Global). length v.items) rows in
-    let test = c.loop-at-test.true in
-    let below : c.loop-at.at < length row.items = omega (arith, c.len-at-end.ensures, c.index.result.now.ok.0) in
-    let found = within_arguments old s c.args.owner c.args.index sound only c.requires.owns c.requires.within row c.loop-at.at place c.index-in-loop-at.ensures below c.index-place.ensures c.in-Apply.field-0 c.in-Apply.arguments c.in-Apply.is in
+    let new = c.add.new.self in
+    let was = c.loop-at.invariant.only in
+    let now = c.in_ok-add.ensures.only in
+    let within = within_arguments old s c.args.owner c.args.index c.application.ensures.sound was c.requires.owns c.requires.within c.loop-at.at c.in-Some.place c.in-Some.ensures.found c.in-Apply.field-0 c.in-Apply.arguments c.in-Apply.is in
     let item : slice_get c.as_slice.result.now c.args.index ≡ Some c.index-as_slice-index.result =
     slice_get_read c.as_slice.result.now (length c.as_slice.result.now) c.args.index c.index-as_slice-index.result refl (omega (arith, ap length c.as_slice.ensures)) c.index-as_slice-index.is in
-    let now = c.in_ok-add.ensures.only in
     record {
-      sound = c.in_ok-add.ensures.sound;
-      only = only_twice only now;
-      placed = placed_up_to old s c.args.owner c.args.index sound only c.requires.owns c.requires.within row c.loop-at.at place c.index-in-loop-at.ensures below c.index-place.ensures c.in-Apply.field-0 c.in-Apply.arguments c.in-Apply.is
-          c.add.new.self c.index-as_slice-index.result (subst (λ (l : List Form). slice_get l c.args.index ≡ Some c.index-as_slice-index.result) c.as_slice.ensures item) c.in_ok-add.ensures.placed now c.loop-at.invariant.placed;
+      only = only_twice was now;
+      placed = one_more old.applications s.places new.places c.args.owner c.args.index c.loop-at.at (λ u form. placed_grown s.places new.places u form now.places) c.loop-at.invariant.placed
+          (placed_here old s c.args.owner c.args.index c.application.ensures.sound was c.requires.owns c.requires.within c.loop-at.at c.in-Some.place c.in-Some.ensures.found c.in-Apply.field-0 c.in-Apply.arguments c.in-Apply.is
+          new.places c.index-as_slice-index.result (subst (λ (l : List Form). slice_get l c.args.index ≡ Some c.index-as_slice-index.result) c.as_slice.ensures item) c.in_ok-add.ensures.placed);
     }
 
-pub returns-clause-sound : goal.returns-clause-sound
-returns-clause-sound c =
-    let old = c.args.self.now in
-    let s = c.loop-at.self in
-    let e = c.set_contained.new.self in
-    let sound = c.loop-at.invariant.sound in
+pub set_contained-requires-clause-passed : goal.set_contained-requires-clause-passed
+set_contained-requires-clause-passed c place arguments form listed formed there =
     let only = c.loop-at.invariant.only in
-    let same = c.set_contained.ensures.same in
-    let from = entries_now old s c.args.owner c.args.index sound only c.requires.owns c.requires.within in
-    let marks = c.set_contained.ensures.contained c.requires.within.0 from in
-    let test = c.loop-at-test.false in
-    contained_as (ap (λ (z : Containment). z.shapes.now) same) marks (ap (λ (z : Containment). z.places.items) same) (ap (λ (z : Containment). z.at) same) (ap applications_of same) (ap edges_of same)
-    (marks_more s.shapes.now (marks_of s) s.places.items s.at (applications_of s) (edges_of s) sound c.args.owner c.args.index c.requires.within.0 from c.requires.within.2
-    (owned_now old s c.args.owner c.args.index sound only c.requires.owns c.requires.within)
-    (λ place arguments form listed formed there.
-    let at_old : slice_get (applications_of old) c.args.owner ≡ Some listed.places = subst (λ (v : Vec (Vec Place Global) Global). slice_get (map (λ q. q.items) v.items) c.args.owner ≡ Some listed.places) only.applications listed.from in
-    let first = c.index.result.now in
-    let own = rows_of old c.args.owner first (rows_long old c.args.owner c.requires.sound c.requires.owns) c.index.ensures in
-    let equal : first.items ≡ listed.places = cc in
+    let from : slice_get c.args.self.now.applications c.args.owner ≡ Some listed.places = subst (λ (l : List (List Place)). slice_get l c.args.owner ≡ Some listed.places) only.applications listed.from in
+    let count = c.application_count-at-end.ensures listed.places from in
     let below = at_within listed.places listed.index place listed.to in
-    c.loop-at.invariant.placed listed.index listed.places place arguments form (omega (arith, c.len-at-end.ensures, first.ok.0, ap length equal)) at_old listed.to formed there))
+    let test = c.loop-at-test.false in
+    c.loop-at.invariant.placed listed.index place arguments form (omega arith) (record { entries = listed.places; from = from; to = listed.to }) formed there
 
 pub returns-clause-fewer : goal.returns-clause-fewer
 returns-clause-fewer c =
-    let old = c.args.self.now in
     let s = c.loop-at.self in
-    let sound = c.loop-at.invariant.sound in
     let only = c.loop-at.invariant.only in
-    let from = entries_now old s c.args.owner c.args.index sound only c.requires.owns c.requires.within in
-    let marks = c.set_contained.ensures.contained c.requires.within.0 from in
-    let entry = at_some c.requires.within.0 c.args.index c.requires.within.2 in
-    let unset = entry_unset old c.args.owner c.args.index c.requires.within.0 c.requires.within.1 entry.0 entry.1 c.requires.new in
-    let counted = count_marked (marks_of s) c.args.owner c.args.index c.requires.within.0 from unset in
-    let same : marks_of s ≡ marks_of old = ap (λ (v : Vec (Vec Bool Global) Global). map (λ r. r.items) v.items) only.contained in
-    rw (marks, ← same) counted
+    let row = c.requires.within in
+    let from : slice_get s.marks c.args.owner ≡ Some row.entries = subst (λ (l : List (List Bool)). slice_get l c.args.owner ≡ Some row.entries) (sym only.marks) row.from in
+    let marks = c.set_contained.ensures.marks row.entries from in
+    let entry = at_some row.entries c.args.index row.within in
+    let counted = count_marked s.marks c.args.owner c.args.index row.entries from (entry_unset row.entries row.from entry.0 entry.1 c.requires.new) in
+    rw (marks, ← only.marks) counted
+  where
+    entry_unset : (entries : List Bool) → slice_get c.args.self.now.marks c.args.owner ≡ Some entries → (entry : Bool) → slice_get entries c.args.index ≡ Some entry → (IsMarked c.args.self.now.marks c.args.owner c.args.index → ⊥) → slice_get entries c.args.index ≡ Some false
+    entry_unset entries at true to none = absurd (none (record { entries = entries; from = at; to = to }))
+    entry_unset entries at false to none = to

@@ -2,12 +2,11 @@ use Rattle.std.proofs.Common.{◌≡◌, ℕ, ◌<◌, List, slice_get, Some}
 use Rattle.cycle_rules.specs.declared.shapes.Form.{Form}
 use Rattle.cycle_rules.specs.declared.shapes.Form.TheVariants.{Apply}
 use Rattle.cycle_rules.specs.declared.containment.Place.{Place}
-use Rattle.cycle_rules.specs.Containment.{IsPlaced, IsSound, OnlyPlaces, applications_of}
+use Rattle.cycle_rules.specs.Containment.{StandsAt, IsPlaced, OnlyPlaces}
 use Rattle.cycle_rules.proofs.containment.Containment.mark.Given as goal
 
 abbrev pub invariant-loop-at : goal.invariant-loop-at
 invariant-loop-at l = record {
-  sound : IsSound l.self;
   only : OnlyPlaces l.initial.self l.self;
-  placed : (k : ℕ) (row : List Place) (place : Place) (arguments : List Form) (form : Form) → k < l.at → slice_get (applications_of l.initial.self) l.owner ≡ Some row → slice_get row k ≡ Some place → place.form.now ≡ Apply l.owner arguments → slice_get arguments l.index ≡ Some form → IsPlaced l.self.places.items place.owner form;
+  placed : (k : ℕ) (place : Place) (arguments : List Form) (form : Form) → k < l.at → StandsAt l.initial.self.applications l.owner k place → place.form.now ≡ Apply l.owner arguments → slice_get arguments l.index ≡ Some form → IsPlaced l.self.places place.owner form;
 }

@@ -1,13 +1,12 @@
-use Rattle.std.proofs.Common.{length, map, slice_set, refl, ap, ◌∙◌}
-use Rattle.std.proofs.lemmas.Option.{slice_get_read}
-use Rattle.cycle_rules.proofs.PlaceLemmas.{at-map_of, map-set}
+use Rattle.std.proofs.Common.{sym, subst}
+use Rattle.cycle_rules.specs.Forms.{Owns, shape}
+use Rattle.cycle_rules.specs.Containment.{Findings, rows_of}
+use Rattle.cycle_rules.proofs.ContainmentLemmas.{joins}
 use Rattle.cycle_rules.proofs.containment.Containment.push_edge.Goals as goal
 
-pub returns-clause-edges : goal.returns-clause-edges
-returns-clause-edges c =
-    let rows = c.args.self.now.edges.items in
-    record {
-      row = c.index_mut.result.now.items;
-      from = at-map_of (λ r. r.items) rows c.args.owner c.index_mut.result.now (slice_get_read rows (length rows) c.args.owner c.index_mut.result.now refl c.requires c.index_mut.ensures.value);
-      to = map-set (λ r. r.items) rows c.args.owner c.push.new.self ∙ ap (λ l. slice_set (map (λ r. r.items) rows) c.args.owner l) c.in_ok-push.ensures.items;
-    }
+pub invariant_of-self-2 : goal.invariant_of-self-2
+invariant_of-self-2 c =
+    let s = c.self.inside in
+    let owns : Owns s.shapes.now c.args.owner (shape c.args.target) = subst (λ (z : Findings). Owns z.shapes c.args.owner (shape c.args.target)) (sym c.self.view_is) c.requires in
+    let gained = c.in_ok-push_to.ensures.gained in
+    rw gained.to (joins s.shapes.now (rows_of s.contained.items) s.places.items s.at (rows_of s.applications.items) (rows_of s.edges.items) c.self.invariant c.args.owner c.args.target gained.row gained.from owns)

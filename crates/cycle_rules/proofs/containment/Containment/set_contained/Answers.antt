@@ -1,17 +1,14 @@
-use Rattle.std.proofs.Common.{◌≡◌, ℕ, ◌<◌, List, Bool, true, length, map, slice_get, slice_set, get_or, Some, refl, arith, ap, ◌∙◌}
-use Rattle.std.proofs.lemmas.List.{length-map}
-use Rattle.std.proofs.lemmas.Option.{slice_get_read}
-use Rattle.std.specs.declared.vec.Vec.{Vec}
-use Rattle.std.specs.declared.alloc.Global.{Global}
-use Rattle.cycle_rules.proofs.PlaceLemmas.{at_within, at-map_of, map-set}
+use Rattle.std.proofs.Common.{sym, subst}
+use Rattle.cycle_rules.specs.Forms.{Owns, parameter}
+use Rattle.cycle_rules.specs.Containment.{Findings, HasEntry, ArePlaced, rows_of}
+use Rattle.cycle_rules.proofs.ContainmentLemmas.{marks_more}
 use Rattle.cycle_rules.proofs.containment.Containment.set_contained.Goals as goal
 
-set_row : (rows : List (Vec Bool Global)) (t j : ℕ) (old new : Vec Bool Global) (row : List Bool) → old ≡ get_or rows t old → new.items ≡ slice_set old.items j true → slice_get (map (λ r. r.items) rows) t ≡ Some row → map (λ r. r.items) (slice_set rows t new) ≡ slice_set (map (λ r. r.items) rows) t (slice_set row j true)
-set_row rows t j old new row is written at =
-    let within : t < length rows = let w = at_within (map (λ r. r.items) rows) t row at in let l = length-map rows (λ r. r.items) in omega arith in
-    let from = at-map_of (λ r. r.items) rows t old (slice_get_read rows (length rows) t old refl within is) in
-    let same : old.items ≡ row = cc in
-    map-set (λ r. r.items) rows t new ∙ ap (λ l. slice_set (map (λ r. r.items) rows) t l) (written ∙ ap (λ l. slice_set l j true) same)
-
-pub returns-clause-contained : goal.returns-clause-contained
-returns-clause-contained c row at = set_row c.args.self.now.contained.items c.args.owner c.args.index c.index_mut.result.now _ row c.index_mut.ensures.value refl at
+pub invariant_of-self : goal.invariant_of-self
+invariant_of-self c =
+    let s = c.self.inside in
+    let owns : Owns s.shapes.now c.args.owner (parameter c.args.index) = subst (λ (z : Findings). Owns z.shapes c.args.owner (parameter c.args.index)) (sym c.self.view_is) c.requires.owns in
+    let entry : HasEntry (rows_of s.contained.items) c.args.owner c.args.index = subst (λ (z : Findings). HasEntry z.marks c.args.owner c.args.index) (sym c.self.view_is) c.requires.within in
+    let passed = subst (λ (z : Findings). ArePlaced z c.args.owner c.args.index) (sym c.self.view_is) c.requires.passed in
+    rw (c.set_entry.ensures entry.entries entry.from) (marks_more s.shapes.now (rows_of s.contained.items) s.places.items s.at (rows_of s.applications.items) (rows_of s.edges.items) c.self.invariant
+    c.args.owner c.args.index entry.entries entry.from entry.within owns passed)
