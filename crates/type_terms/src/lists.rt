@@ -23,8 +23,8 @@ pub type Params = Sequence<ParamNode>;
 
 pub type Terms = Sequence<Term>;
 
-/// A list of nodes that doesn't change, most often a short one: up to four stand in the value itself. A contract
-/// sees the list of the nodes' numbers.
+/// A list of nodes that doesn't change. Most are short, and up to four stand in the value itself, so such a node needs
+/// no memory of its own: this is why it is no `Sequence`. A contract sees the list of the nodes' numbers.
 #[derive(Debug, Drop)]
 pub struct Nodes {
     numbers: SmallVec<NodeId, 4>,
