@@ -1,10 +1,10 @@
 -- Things read one after the other: the loop that reads them.
 use Rattle.std.proofs.Common.{◌≡◌, ℕ, suc, ◌+◌, ◌-◌, ◌<◌, ◌≤◌, List, [], ◌∷◌, ◌++◌, Result, Ok, Err, refl, sym, ap, ◌∙◌, append_assoc, arith}
 use Rattle.std.proofs.lemmas.List.{append-nil}
+use Rattle.wire_bytes.specs.declared.fault.ReadFault.{ReadFault}
+use Rattle.wire_bytes.specs.declared.fault.ReadFault.TheVariants.{Bytes, OutOfMemory}
 use Rattle.wire_bytes.specs.Reading.{◌>>=◌}
 use Rattle.decl_spelling.specs.Reading.{Ahead, Reader, Stopped, times}
-use Rattle.decl_reader.specs.declared.fault.DeclFault.{DeclFault}
-use Rattle.decl_reader.specs.declared.fault.DeclFault.TheVariants.{Bytes, Nodes, OutOfMemory}
 use Rattle.decl_reader.specs.Calls.{Stops}
 
 module _ {X : Type 0} where
@@ -42,8 +42,7 @@ module _ {X : Type 0} where
       sym so_far ∙ step
 
 -- an item that couldn't be read ends the reading of them all
-pub ends : {Y : Type 0} (e : DeclFault) (one : Reader Y) (front : List Y) (count i : ℕ) (a new : Ahead) (total : Result (List Y × Ahead) Stopped)
+pub ends : {Y : Type 0} (e : ReadFault) (one : Reader Y) (front : List Y) (count i : ℕ) (a new : Ahead) (total : Result (List Y × Ahead) Stopped)
     → i < count → Stops e new (one a) → with_front front (times one (count - i) a) ≡ total → Stops e new total
 ends (Bytes f) one front count i a new total lt failed so_far = fails one front count i a (record { fault = f; mentions = new.mentions }) total lt failed so_far
-ends Nodes one front count i a new total lt failed so_far = absurd failed
 ends OutOfMemory one front count i a new total lt failed so_far = tt

@@ -6,6 +6,8 @@ use Rattle.std.proofs.Math.ListN.{drop_of_length-le}
 use Rattle.decl_spelling.proofs.Bounds.{bind_same}
 use Rattle.std.specs.List.{AllByRecursion}
 use Rattle.wire_bytes.specs.declared.fault.ByteFault.{ByteFault}
+use Rattle.wire_bytes.specs.declared.fault.ReadFault.{ReadFault}
+use Rattle.wire_bytes.specs.declared.fault.ReadFault.TheVariants as reading
 use Rattle.wire_bytes.specs.Reading.{◌>>=◌}
 use Rattle.type_terms.specs.declared.descriptors.Node.{Node}
 use Rattle.type_terms.specs.Arenas.{Contents, Extends}
@@ -20,6 +22,7 @@ use Rattle.std.proofs.lemmas.List.{reverse-append, reverse-reverse}
 use Rattle.decl_reader.specs.declared.descent.Open.{Open}
 use Rattle.decl_reader.specs.declared.fault.DeclFault.{DeclFault}
 use Rattle.decl_reader.specs.declared.fault.DeclFault.TheVariants.{Bytes, Nodes, OutOfMemory}
+use Rattle.decl_reader.specs.Faults.{of_read}
 use Rattle.decl_reader.specs.Blocks.{Entry, table_of}
 use Rattle.decl_reader.specs.Frames.{closed, closed_by, resume}
 use Rattle.decl_reader.specs.Opens.{IsReady, IsOpen, IsOwn, IsBelow, IsBegun, IsClosed, EndsBefore, AreHolders, Begins, Resolves, reads, resumed, frame_of, holder_of, own_shape}
@@ -271,12 +274,11 @@ opens_smaller most inner o os h below fresh few =
 pub last_first : {X : Type 0} (xs : List X) (x : X) → reverse (xs ++ x ∷ []) ≡ x ∷ reverse xs
 last_first xs x = reverse-append xs (x ∷ [])
 
-pub begin_fault : (src : Sections) (first : Open) (done : Table) (old new : Contents) (entries : List Entry) (current : Open) (holders : List Open) (d : Mention) (e : DeclFault) (t : Table)
+pub begin_fault : (src : Sections) (first : Open) (done : Table) (old new : Contents) (entries : List Entry) (current : Open) (holders : List Open) (d : Mention) (e : ReadFault) (t : Table)
     → Running src first done old new entries current holders → current.known < length current.mentions.items
-    → Begins src (table_of new.nodes entries) entries current.start (slice_index_or current.mentions.items current.known d) (Err e) → Resolves (Err e) t (resumed src first [] done)
-begin_fault src first done old new entries current holders d (Bytes f) t running h begins = stops src first done old new entries current holders d f running h begins
-begin_fault src first done old new entries current holders d Nodes t running h begins = absurd begins
-begin_fault src first done old new entries current holders d OutOfMemory t running h begins = tt
+    → Begins src (table_of new.nodes entries) entries current.start (slice_index_or current.mentions.items current.known d) (Err e) → Resolves (Err (of_read e)) t (resumed src first [] done)
+begin_fault src first done old new entries current holders d (reading.Bytes f) t running h begins = stops src first done old new entries current holders d f running h begins
+begin_fault src first done old new entries current holders d reading.OutOfMemory t running h begins = tt
 
 -- ---- the turns, at the mention that the code has in hand
 
@@ -285,7 +287,7 @@ module _ (src : Sections) (first : Open) (done : Table) (old new : Contents) (en
   abbrev present : Table
   present = table_of new.nodes entries
 
-  begins_at : (r : Result (Option Open) DeclFault) → Begins src present entries current.start named r → Begins src present entries current.start (slice_index_or current.mentions.items current.known named) r
+  begins_at : (r : Result (Option Open) ReadFault) → Begins src present entries current.start named r → Begins src present entries current.start (slice_index_or current.mentions.items current.known named) r
   begins_at r begins = subst (λ (m : Mention). Begins src present entries current.start m r) is begins
 
   pub none_goes_on : (a : Option Open) → a ≡ None → Begins src present entries current.start named (Ok a) → Running src first done old new entries (one_more current) holders
@@ -309,21 +311,13 @@ module _ (src : Sections) (first : Open) (done : Table) (old new : Contents) (en
       (sym (ap reverse is_pushed ∙ last_first (reverse holders) current ∙ ap (λ (os : List Open). current ∷ os) (reverse-reverse holders)))
       (opens_smaller (length src.body) inner current holders h begun.below.0 begun.fresh begun.is_open.few)
 
-  pub fault_resolves : (e : DeclFault) (t : Table) → Begins src present entries current.start named (Err e) → Resolves (Err e) t (resumed src first [] done)
+  pub fault_resolves : (e : ReadFault) (t : Table) → Begins src present entries current.start named (Err e) → Resolves (Err (of_read e)) t (resumed src first [] done)
   fault_resolves e t begins = begin_fault src first done old new entries current holders named e t running h (begins_at (Err e) begins)
 
--- beginning adds no node
-pub never_full : (src : Sections) (done : Table) (entries : List Entry) (holder : ℕ) (named : Mention) (e : DeclFault) → Begins src done entries holder named (Err e) → e ≡ Nodes → ⊥
-never_full src done entries holder named (Bytes f) begins full = absurd cc
-never_full src done entries holder named Nodes begins full = begins
-never_full src done entries holder named OutOfMemory begins full = absurd cc
-
-pub full_is : (r : Result (Unit {0}) DeclFault) (e : DeclFault) → r ≡ Err e → IsErrOf r Nodes → e ≡ Nodes
-full_is r e is full = ap error_or (sym is ∙ full)
-  where
-    error_or : Result (Unit {0}) DeclFault → DeclFault
-    error_or (Ok u) = Nodes
-    error_or (Err x) = x
+-- reading bytes adds no node
+pub never_full : {X : Type 0} (r : Result X DeclFault) (e : ReadFault) → r ≡ Err (of_read e) → IsErrOf r Nodes → ⊥
+never_full r (reading.Bytes f) is full = let no = sym is ∙ full in absurd cc
+never_full r reading.OutOfMemory is full = let no = sym is ∙ full in absurd cc
 
 -- ---- what a block names, one mention after the other
 

@@ -3,6 +3,8 @@ use Rattle.std.specs.Prelude.{◌≡◌, ℕ, ◌+◌, ◌<◌, ◌≤◌, List,
 use Rattle.std.specs.List.{AllByRecursion}
 use Rattle.wire_bytes.specs.declared.fault.ByteFault.{ByteFault}
 use Rattle.wire_bytes.specs.declared.fault.ByteFault.TheVariants as faults
+use Rattle.wire_bytes.specs.declared.fault.ReadFault.{ReadFault}
+use Rattle.wire_bytes.specs.declared.fault.ReadFault.TheVariants as reading
 use Rattle.wire_bytes.specs.Reading.{◌>>=◌, demand}
 use Rattle.code_tables.specs.declared.predeclared.Basic.{Basic}
 use Rattle.type_terms.specs.Trees.{Tree, predeclared}
@@ -96,12 +98,11 @@ pub record IsBegun (src : Sections) (done : Table) (entries : List Entry) (holde
   pub turn : resolve src (reads src) holder named done ≡ (resolve_all src (reads src) o.start o.mentions.items done >>= closed_by src.version o.start named (own_shape o.own))
 
 -- what a mention needs: nothing more, or a descriptor that was opened
-abbrev pub Begins : Sections → Table → List Entry → ℕ → Mention → Result (Option Open) DeclFault → Type 0
+abbrev pub Begins : Sections → Table → List Entry → ℕ → Mention → Result (Option Open) ReadFault → Type 0
 Begins src done entries holder named (Ok None) = (resolve src (reads src) holder named done ≡ Ok done) × IsAnswered src done holder named
 Begins src done entries holder named (Ok (Some o)) = IsBegun src done entries holder named o
-Begins src done entries holder named (Err (Bytes f)) = resolve src (reads src) holder named done ≡ Err f
-Begins src done entries holder named (Err Nodes) = ⊥
-Begins src done entries holder named (Err OutOfMemory) = Unit {0}
+Begins src done entries holder named (Err (reading.Bytes f)) = resolve src (reads src) holder named done ≡ Err f
+Begins src done entries holder named (Err reading.OutOfMemory) = Unit {0}
 
 -- A descriptor was closed: it is among the finished ones, which stay, and where it ends at or before an offset it leaves the
 -- room from there on.

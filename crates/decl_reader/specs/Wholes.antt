@@ -4,6 +4,7 @@ use Rattle.std.specs.List.{sum_by}
 use Rattle.code_tables.specs.declared.predeclared.Basic.{Basic}
 use Rattle.go_values.specs.declared.constants.Const.{Const}
 use Rattle.wire_bytes.specs.declared.fault.ByteFault.{ByteFault}
+use Rattle.wire_bytes.specs.declared.fault.ReadFault.{ReadFault}
 use Rattle.wire_bytes.specs.Reading.{place, ◌>>=◌}
 use Rattle.type_terms.specs.declared.descriptors.Node.{Node}
 use Rattle.type_terms.specs.declared.declarations.DeclNode.{DeclNode}
@@ -17,6 +18,7 @@ use Rattle.decl_spelling.specs.Declarations.{Receiver, receiver_at, resolved, fa
 use Rattle.decl_reader.specs.declared.flat.declarations.DeclParts.{DeclParts}
 use Rattle.decl_reader.specs.declared.fault.DeclFault.{DeclFault}
 use Rattle.decl_reader.specs.declared.fault.DeclFault.TheVariants.{Bytes, Nodes, OutOfMemory}
+use Rattle.decl_reader.specs.Faults.{of_read}
 use Rattle.decl_reader.specs.Forms.{decl_form}
 
 -- an error that names a fault is what reading gives; want of nodes or memory says nothing
@@ -43,9 +45,9 @@ methods_by src offset a done false = Ok (([], a), done)
 abbrev pub value_by : Sections → ℕ → Option Basic → Ahead → Result (Const × Ahead) ByteFault
 value_by src at basic a = spelling_at at basic >>= λ spelling. fault_alone (value_at src spelling a)
 
-abbrev pub IsValue : Result Const DeclFault → Ahead → Result (Const × Ahead) ByteFault → Type 0
+abbrev pub IsValue : Result Const ReadFault → Ahead → Result (Const × Ahead) ByteFault → Type 0
 IsValue (Ok value) ahead read = read ≡ Ok (value, ahead)
-IsValue (Err e) ahead read = FaultIs e read
+IsValue (Err e) ahead read = FaultIs (of_read e) read
 
 -- a declaration with types as numbers, what is ahead of it, and the types that it reaches
 abbrev pub IsWhole : Result DeclParts DeclFault → Ahead → Table → Result Read ByteFault → Type 0

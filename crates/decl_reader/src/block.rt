@@ -6,13 +6,12 @@ ghost use Rattle.decl_spelling.specs.Sections.{window};
 ghost use Rattle.decl_spelling.specs.Reading.{start, number_at, truth_at, text_at, path_at, pos_at, type_at};
 ghost use Rattle.decl_reader.specs.Calls.{ReadsBlock, ahead_of, sections_of};
 
-use crate::fault::DeclFault;
 use decl_spelling::{Demand, Mention};
 use file_parts::Parts;
 use go_values::{Bytes, Pos};
 use position_codec::{PrevPos, read_full};
 use std::alloc::Global;
-use wire_bytes::{ByteFault, Cursor, text_at};
+use wire_bytes::{ByteFault, Cursor, ReadFault, text_at};
 
 /// A block that is being read: what is left of it, the position before its next one, and the types that it has named so far.
 #[derive(Drop)]
@@ -40,14 +39,14 @@ impl<'a> Block<'a> {
 }
 
 /// The next number.
-pub(crate) fn read_number(block: &mut Block<'_>) -> Result<u64, DeclFault>
+pub(crate) fn read_number(block: &mut Block<'_>) -> Result<u64, ReadFault>
     ensures { ReadsBlock (λ n. n) result (ahead_of block.new) (number_at (ahead_of block.old)) }
 {
     Ok(block.cursor.uvarint()?)
 }
 
 /// The next flag.
-pub(crate) fn read_truth(block: &mut Block<'_>) -> Result<bool, DeclFault>
+pub(crate) fn read_truth(block: &mut Block<'_>) -> Result<bool, ReadFault>
     ensures { ReadsBlock (λ b. b) result (ahead_of block.new) (truth_at (ahead_of block.old)) }
 {
     Ok(block.cursor.flag()?)
@@ -59,7 +58,7 @@ pub(crate) fn read_text(
     alloc: Global,
     parts: &Parts<'_>,
     block: &mut Block<'_>,
-) -> Result<Bytes, DeclFault>
+) -> Result<Bytes, ReadFault>
     requires { IsOfFile parts.now }
     ensures { ReadsBlock (λ t. t) result (ahead_of block.new) (text_at (sections_of parts.now) (ahead_of block.old)) }
 {
@@ -67,7 +66,7 @@ pub(crate) fn read_text(
     let offset = read_number(block)?;
     match text_at(parts.strings(), offset) {
         Some(text) => Ok(Bytes::from_slice(alloc, text)?),
-        None => Err(DeclFault::Bytes(ByteFault::Range { at, value: offset })),
+        None => Err(ReadFault::Bytes(ByteFault::Range { at, value: offset })),
     }
 }
 
@@ -77,7 +76,7 @@ pub(crate) fn read_path(
     alloc: Global,
     parts: &Parts<'_>,
     block: &mut Block<'_>,
-) -> Result<Bytes, DeclFault>
+) -> Result<Bytes, ReadFault>
     requires { IsOfFile parts.now }
     ensures { ReadsBlock (λ t. t) result (ahead_of block.new) (path_at (sections_of parts.now) (ahead_of block.old)) }
 {
@@ -85,7 +84,7 @@ pub(crate) fn read_path(
     let offset = read_number(block)?;
     match parts.path_at(offset) {
         Some(path) => Ok(Bytes::from_slice(alloc, path)?),
-        None => Err(DeclFault::Bytes(ByteFault::Range { at, value: offset })),
+        None => Err(ReadFault::Bytes(ByteFault::Range { at, value: offset })),
     }
 }
 
@@ -94,16 +93,16 @@ pub(crate) fn read_pos(
     alloc: Global,
     parts: &Parts<'_>,
     block: &mut Block<'_>,
-) -> Result<Pos, DeclFault>
+) -> Result<Pos, ReadFault>
     requires { IsOfFile parts.now }
     ensures { ReadsBlock (λ p. p) result (ahead_of block.new) (pos_at (sections_of parts.now) (ahead_of block.old)) }
 {
-    Ok(read_full(alloc, &mut block.cursor, parts, &mut block.before)?)
+    read_full(alloc, &mut block.cursor, parts, &mut block.before)
 }
 
 /// The number of a type, which is noted with what is asked of it.
 #[tactic(auto, unfolding(decl_spelling::specs::Reading::type_at))]
-pub(crate) fn read_type(block: &mut Block<'_>, asked: Demand) -> Result<u64, DeclFault>
+pub(crate) fn read_type(block: &mut Block<'_>, asked: Demand) -> Result<u64, ReadFault>
     ensures { ReadsBlock (λ n. n) result (ahead_of block.new) (type_at asked (ahead_of block.old)) }
 {
     let at = block.cursor.place() as u64;

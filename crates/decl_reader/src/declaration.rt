@@ -34,6 +34,7 @@ use std::alloc::Global;
 use std::sync::ledger::Ledger;
 use steps::Steps;
 use type_terms::{Arena, DeclNode};
+use wire_bytes::ReadFault;
 
 /// Reads the declaration at an offset of the data section of a full file or a bundle, or answers the first fault in reading order.
 /// A declaration is read from left to right; a descriptor is read where it is first named, once, and stands wholly before the block
@@ -121,13 +122,12 @@ fn read_head_types<L: Ledger>(
             know_types(alloc, parts, offset, block, table, arena, steps)?;
             Ok(head)
         }
-        Err(DeclFault::Bytes(fault)) => {
+        Err(ReadFault::Bytes(fault)) => {
             // A fault of the types that stand before it comes first.
             know_types(alloc, parts, offset, block, table, arena, steps)?;
             Err(DeclFault::Bytes(fault))
         }
-        // Reading bytes adds no node.
-        Err(DeclFault::Nodes | DeclFault::OutOfMemory) => Err(DeclFault::OutOfMemory),
+        Err(ReadFault::OutOfMemory) => Err(DeclFault::OutOfMemory),
     }
 }
 

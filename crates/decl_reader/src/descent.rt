@@ -1,7 +1,7 @@
 //! Reading the types that a block names. The descriptors that are open stand on a list, not on the call stack, so a chain of any
 //! length is read.
 
-ghost use Rattle.std.specs.Prelude.{◌≡◌, ◌+◌, ◌-◌, ◌<◌, ◌≤◌, List, [], ◌∷◌, Ok, Err, Some, None, length, IfOk, IfErr, OnOk, IsErrOf};
+ghost use Rattle.std.specs.Prelude.{◌≡◌, ◌+◌, ◌-◌, ◌<◌, ◌≤◌, List, [], ◌∷◌, Ok, Err, Some, None, length, IfOk, OnOk, IsErrOf};
 ghost use Rattle.type_terms.specs.Arenas.{Extends};
 ghost use Rattle.decl_spelling.specs.Tables.{at};
 ghost use Rattle.decl_spelling.specs.Codes.{basic_of};
@@ -26,11 +26,11 @@ use crate::nodes::add_flat;
 use crate::table::{Finished, Table};
 use decl_spelling::Mention;
 use file_parts::Parts;
-use std::alloc::Global;
+use std::alloc::{AllocError, Global};
 use std::sync::ledger::Ledger;
 use steps::Steps;
 use type_terms::{Arena, NodeId};
-use wire_bytes::ByteFault;
+use wire_bytes::{ByteFault, ReadFault};
 
 /// A descriptor that is open: its own bytes were read, and some of its types are still to be known.
 #[derive(Drop)]
@@ -149,7 +149,7 @@ fn begin(
     named: Mention,
     table: &Table,
     arena: &Arena,
-) -> Result<Option<Open>, DeclFault>
+) -> Result<Option<Open>, ReadFault>
     requires sections { IsOfFile parts.now }
     requires bytes { HoldsBytes (sections_of parts.now) }
     requires ready { IsReady (length (body_of parts.now)) (length arena.now.nodes) table.now.blocks.entries }
@@ -162,7 +162,7 @@ fn begin(
     }
     let start = named.value - 32;
     if start >= holder {
-        return Err(DeclFault::Bytes(out_of_range(named)));
+        return Err(ReadFault::Bytes(out_of_range(named)));
     }
     match table.at(start) {
         Some(finished) => {
@@ -218,23 +218,21 @@ fn open_at(
     holder: u64,
     named: Mention,
     table: &Table,
-) -> Result<Open, DeclFault>
+) -> Result<Open, AllocError>
     requires sections { IsOfFile parts.now }
     requires bytes { HoldsBytes (sections_of parts.now) }
     requires stacked { IsStacked table.now.blocks.entries }
     requires large { 32 ≤ named.value }
     requires before { named.value - 32 < holder }
     requires within { holder ≤ parts.now.body_len }
-    ensures begun { IfOk result (λ o. (nodes : List Node) → at (table_of nodes table.now.blocks.entries) (named.value - 32) ≡ None → IsBegun (sections_of parts.now) (table_of nodes table.now.blocks.entries) table.now.blocks.entries holder named o) }
-    ensures only_memory { IfErr result (λ e. e ≡ DeclFault.OutOfMemory) }
+    ensures { IfOk result (λ o. (nodes : List Node) → at (table_of nodes table.now.blocks.entries) (named.value - 32) ≡ None → IsBegun (sections_of parts.now) (table_of nodes table.now.blocks.entries) table.now.blocks.entries holder named o) }
 {
     let start = named.value - 32;
     let mut block = Block::new(alloc, parts, start, table.free_to(start, holder));
     let own = match read_flat(alloc, parts, &mut block) {
         Ok(flat) => Ok((flat, block.cursor.place() as u64 - parts.body_at)),
-        Err(DeclFault::Bytes(fault)) => Err(fault),
-        // Reading bytes adds no node.
-        Err(DeclFault::Nodes | DeclFault::OutOfMemory) => return Err(DeclFault::OutOfMemory),
+        Err(ReadFault::Bytes(fault)) => Err(fault),
+        Err(ReadFault::OutOfMemory) => return Err(AllocError),
     };
     Ok(Open {
         start,

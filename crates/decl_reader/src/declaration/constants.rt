@@ -1,6 +1,6 @@
 //! The value of a constant, by the predeclared type to which its type comes down.
 
-ghost use Rattle.std.specs.Prelude.{◌≡◌, ℕ, length, Some, IsErrOf};
+ghost use Rattle.std.specs.Prelude.{◌≡◌, ℕ, length, Some};
 ghost use Rattle.file_parts.specs.FileParts.{IsOfFile};
 ghost use Rattle.type_terms.specs.Arenas.{AllBelow};
 ghost use Rattle.type_terms.specs.Denotation.{tree};
@@ -16,7 +16,6 @@ ghost use Rattle.decl_reader.specs.Wholes.{IsValue, value_by};
 use crate::basics::Basics;
 use crate::block::Block;
 use crate::codes::basic_named;
-use crate::fault::DeclFault;
 use crate::flat::{Kind, kind_of, read_value};
 use crate::table::Table;
 use code_tables::Basic;
@@ -24,7 +23,7 @@ use file_parts::Parts;
 use go_values::{Const, QName};
 use std::alloc::Global;
 use type_terms::{Arena, Node};
-use wire_bytes::ByteFault;
+use wire_bytes::{ByteFault, ReadFault};
 
 /// The value of a constant of this type, whose number stands at `at` in the file.
 pub(crate) fn read_constant<B: Basics>(
@@ -36,15 +35,14 @@ pub(crate) fn read_constant<B: Basics>(
     block: &mut Block<'_>,
     table: &Table,
     arena: &Arena,
-) -> Result<Const, DeclFault>
+) -> Result<Const, ReadFault>
     requires of_file { IsOfFile parts.now }
     requires inside { AllInside (length arena.now.nodes) table.now.blocks.entries }
-    ensures no_nodes { IsErrOf result DeclFault.Nodes → ⊥ }
-    ensures exact { IsValue result (ahead_of block.new) (value_by (sections_of parts.now) at (basic_type (B.meaning basics.now) (type_named parts.now.version (table_of arena.now.nodes table.now.blocks.entries) ty)) (ahead_of block.old)) }
+    ensures { IsValue result (ahead_of block.new) (value_by (sections_of parts.now) at (basic_type (B.meaning basics.now) (type_named parts.now.version (table_of arena.now.nodes table.now.blocks.entries) ty)) (ahead_of block.old)) }
 {
     match basic_type(parts.version, ty, basics, table, arena) {
         Some(basic) => read_value_of(alloc, parts, basic, at, block),
-        None => Err(DeclFault::Bytes(ByteFault::NotConst { at })),
+        None => Err(ReadFault::Bytes(ByteFault::NotConst { at })),
     }
 }
 
@@ -55,19 +53,14 @@ fn read_value_of(
     basic: Basic,
     at: u64,
     block: &mut Block<'_>,
-) -> Result<Const, DeclFault>
+) -> Result<Const, ReadFault>
     requires of_file { IsOfFile parts.now }
-    ensures no_nodes { IsErrOf result DeclFault.Nodes → ⊥ }
-    ensures exact { IsValue result (ahead_of block.new) (value_by (sections_of parts.now) at (Some basic) (ahead_of block.old)) }
+    ensures { IsValue result (ahead_of block.new) (value_by (sections_of parts.now) at (Some basic) (ahead_of block.old)) }
 {
     match kind_of(basic) {
-        Kind::Spelled(spelling) => match read_value(alloc, parts, spelling, block) {
-            // Reading bytes adds no node.
-            Err(DeclFault::Nodes) => Err(DeclFault::OutOfMemory),
-            read => read,
-        },
-        Kind::Floating => Err(DeclFault::Bytes(ByteFault::Float { at })),
-        Kind::NoConstant => Err(DeclFault::Bytes(ByteFault::NotConst { at })),
+        Kind::Spelled(spelling) => read_value(alloc, parts, spelling, block),
+        Kind::Floating => Err(ReadFault::Bytes(ByteFault::Float { at })),
+        Kind::NoConstant => Err(ReadFault::Bytes(ByteFault::NotConst { at })),
     }
 }
 

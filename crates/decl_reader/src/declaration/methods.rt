@@ -28,6 +28,7 @@ use std::alloc::Global;
 use std::sync::ledger::Ledger;
 use steps::Steps;
 use type_terms::{Arena, Node};
+use wire_bytes::ReadFault;
 
 /// The methods of a defined type with this underlying type, and the types that they name.
 pub(crate) fn read_methods<L: Ledger>(
@@ -82,13 +83,12 @@ fn read_receiver_types<L: Ledger>(
             know_types(alloc, parts, offset, block, table, arena, steps)?;
             Ok(receivers)
         }
-        Err(DeclFault::Bytes(fault)) => {
+        Err(ReadFault::Bytes(fault)) => {
             // A fault of the types that stand before it comes first.
             know_types(alloc, parts, offset, block, table, arena, steps)?;
             Err(DeclFault::Bytes(fault))
         }
-        // Reading bytes adds no node.
-        Err(DeclFault::Nodes | DeclFault::OutOfMemory) => Err(DeclFault::OutOfMemory),
+        Err(ReadFault::OutOfMemory) => Err(DeclFault::OutOfMemory),
     }
 }
 

@@ -9,7 +9,6 @@ ghost use Rattle.decl_reader.specs.Forms.{head_shape, receiver_shape};
 
 use crate::block::{Block, read_pos, read_text, read_truth, read_type};
 use crate::codes::decl_tag_of;
-use crate::fault::DeclFault;
 use crate::flat::lists::{Listed, read_list};
 use crate::flat::params::{Param, Signature, read_signature};
 use crate::flat::types::read_types;
@@ -18,7 +17,7 @@ use decl_spelling::Demand;
 use file_parts::Parts;
 use go_values::{Bytes, Const, Pos};
 use std::alloc::Global;
-use wire_bytes::ByteFault;
+use wire_bytes::{ByteFault, ReadFault};
 
 /// A method of a defined type, with its receiver.
 #[derive(Debug, Drop)]
@@ -89,7 +88,7 @@ pub(crate) fn read_declaration_head(
     alloc: Global,
     parts: &Parts<'_>,
     block: &mut Block<'_>,
-) -> Result<DeclHead, DeclFault>
+) -> Result<DeclHead, ReadFault>
     requires { IsOfFile parts.now }
     ensures { ReadsBlock head_shape result (ahead_of block.new) (head_at (sections_of parts.now) (ahead_of block.old)) }
 {
@@ -97,7 +96,7 @@ pub(crate) fn read_declaration_head(
     let letter = block.cursor.byte()?;
     match decl_tag_of(parts.version, letter) {
         Some(tag) => read_parts(alloc, parts, tag, block),
-        None => Err(DeclFault::Bytes(ByteFault::Tag {
+        None => Err(ReadFault::Bytes(ByteFault::Tag {
             at,
             value: u64::from(letter),
         })),
@@ -110,7 +109,7 @@ fn read_parts(
     parts: &Parts<'_>,
     tag: DeclTag,
     block: &mut Block<'_>,
-) -> Result<DeclHead, DeclFault>
+) -> Result<DeclHead, ReadFault>
     requires { IsOfFile parts.now }
     ensures { ReadsBlock head_shape result (ahead_of block.new) (head_by (sections_of parts.now) tag (ahead_of block.old)) }
 {
@@ -128,7 +127,7 @@ fn read_parts(
 }
 
 #[tactic(auto, unfolding(decl_spelling::specs::Declarations::var_at))]
-fn read_var(alloc: Global, parts: &Parts<'_>, block: &mut Block<'_>) -> Result<DeclHead, DeclFault>
+fn read_var(alloc: Global, parts: &Parts<'_>, block: &mut Block<'_>) -> Result<DeclHead, ReadFault>
     requires { IsOfFile parts.now }
     ensures { ReadsBlock head_shape result (ahead_of block.new) (var_at (sections_of parts.now) (ahead_of block.old)) }
 {
@@ -138,7 +137,7 @@ fn read_var(alloc: Global, parts: &Parts<'_>, block: &mut Block<'_>) -> Result<D
 }
 
 #[tactic(auto, unfolding(decl_spelling::specs::Declarations::func_decl_at))]
-fn read_func(alloc: Global, parts: &Parts<'_>, block: &mut Block<'_>) -> Result<DeclHead, DeclFault>
+fn read_func(alloc: Global, parts: &Parts<'_>, block: &mut Block<'_>) -> Result<DeclHead, ReadFault>
     requires { IsOfFile parts.now }
     ensures { ReadsBlock head_shape result (ahead_of block.new) (func_decl_at (sections_of parts.now) (ahead_of block.old)) }
 {
@@ -156,7 +155,7 @@ fn read_generic_func(
     alloc: Global,
     parts: &Parts<'_>,
     block: &mut Block<'_>,
-) -> Result<DeclHead, DeclFault>
+) -> Result<DeclHead, ReadFault>
     requires { IsOfFile parts.now }
     ensures { ReadsBlock head_shape result (ahead_of block.new) (generic_func_at (sections_of parts.now) (ahead_of block.old)) }
 {
@@ -175,7 +174,7 @@ fn read_constant(
     alloc: Global,
     parts: &Parts<'_>,
     block: &mut Block<'_>,
-) -> Result<DeclHead, DeclFault>
+) -> Result<DeclHead, ReadFault>
     requires { IsOfFile parts.now }
     ensures { ReadsBlock head_shape result (ahead_of block.new) (constant_at (sections_of parts.now) (ahead_of block.old)) }
 {
@@ -190,7 +189,7 @@ fn read_defined(
     alloc: Global,
     parts: &Parts<'_>,
     block: &mut Block<'_>,
-) -> Result<DeclHead, DeclFault>
+) -> Result<DeclHead, ReadFault>
     requires { IsOfFile parts.now }
     ensures { ReadsBlock head_shape result (ahead_of block.new) (defined_at (sections_of parts.now) (ahead_of block.old)) }
 {
@@ -208,7 +207,7 @@ fn read_generic_defined(
     alloc: Global,
     parts: &Parts<'_>,
     block: &mut Block<'_>,
-) -> Result<DeclHead, DeclFault>
+) -> Result<DeclHead, ReadFault>
     requires { IsOfFile parts.now }
     ensures { ReadsBlock head_shape result (ahead_of block.new) (generic_defined_at (sections_of parts.now) (ahead_of block.old)) }
 {
@@ -227,7 +226,7 @@ fn read_alias(
     alloc: Global,
     parts: &Parts<'_>,
     block: &mut Block<'_>,
-) -> Result<DeclHead, DeclFault>
+) -> Result<DeclHead, ReadFault>
     requires { IsOfFile parts.now }
     ensures { ReadsBlock head_shape result (ahead_of block.new) (alias_at (sections_of parts.now) (ahead_of block.old)) }
 {
@@ -245,7 +244,7 @@ fn read_generic_alias(
     alloc: Global,
     parts: &Parts<'_>,
     block: &mut Block<'_>,
-) -> Result<DeclHead, DeclFault>
+) -> Result<DeclHead, ReadFault>
     requires { IsOfFile parts.now }
     ensures { ReadsBlock head_shape result (ahead_of block.new) (generic_alias_at (sections_of parts.now) (ahead_of block.old)) }
 {
@@ -261,7 +260,7 @@ fn read_type_parameter(
     alloc: Global,
     parts: &Parts<'_>,
     block: &mut Block<'_>,
-) -> Result<DeclHead, DeclFault>
+) -> Result<DeclHead, ReadFault>
     requires { IsOfFile parts.now }
     ensures { ReadsBlock head_shape result (ahead_of block.new) (parameter_at (sections_of parts.now) (ahead_of block.old)) }
 {
@@ -301,7 +300,7 @@ impl Listed for ReceiverParts {
         alloc: Global,
         parts: &Parts<'_>,
         block: &mut Block<'_>,
-    ) -> Result<ReceiverParts, DeclFault> {
+    ) -> Result<ReceiverParts, ReadFault> {
         let pos = read_pos(alloc, parts, block)?;
         let name = read_text(alloc, parts, block)?;
         let recv = Param::read(alloc, parts, block)?;
@@ -320,7 +319,7 @@ pub(crate) fn read_receivers(
     alloc: Global,
     parts: &Parts<'_>,
     block: &mut Block<'_>,
-) -> Result<Vec<ReceiverParts>, DeclFault>
+) -> Result<Vec<ReceiverParts>, ReadFault>
     requires { IsOfFile parts.now }
     ensures { ReadsBlock (λ v. map receiver_shape v.items) result (ahead_of block.new) (list_at (receiver_at (sections_of parts.now)) (ahead_of block.old)) }
 {

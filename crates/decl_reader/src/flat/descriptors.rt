@@ -9,7 +9,6 @@ ghost use Rattle.decl_reader.specs.Shapes.{flat_shape};
 
 use crate::block::{Block, read_number, read_path, read_pos, read_text, read_type};
 use crate::codes::{dir_of, type_tag_of};
-use crate::fault::DeclFault;
 use crate::flat::lists::{read_list, read_some};
 use crate::flat::members::{FieldParts, MethodParts, TermParts};
 use crate::flat::params::{Signature, read_signature};
@@ -20,7 +19,7 @@ use file_parts::Parts;
 use go_values::{Bytes, QName};
 use std::alloc::Global;
 use type_terms::Dir;
-use wire_bytes::ByteFault;
+use wire_bytes::{ByteFault, ReadFault};
 
 /// What stands in a descriptor. The first text of a function, a struct and an interface is the path of the package in which the
 /// literal stands.
@@ -52,7 +51,7 @@ pub(crate) fn read_flat(
     alloc: Global,
     parts: &Parts<'_>,
     block: &mut Block<'_>,
-) -> Result<Flat, DeclFault>
+) -> Result<Flat, ReadFault>
     requires { IsOfFile parts.now }
     ensures { ReadsBlock flat_shape result (ahead_of block.new) (flat_at (sections_of parts.now) (ahead_of block.old)) }
 {
@@ -60,7 +59,7 @@ pub(crate) fn read_flat(
     let value = read_number(block)?;
     match type_tag_of(parts.version, value) {
         Some(tag) => read_parts(alloc, parts, tag, block),
-        None => Err(DeclFault::Bytes(ByteFault::Tag { at, value })),
+        None => Err(ReadFault::Bytes(ByteFault::Tag { at, value })),
     }
 }
 
@@ -71,7 +70,7 @@ fn read_parts(
     parts: &Parts<'_>,
     tag: TypeTag,
     block: &mut Block<'_>,
-) -> Result<Flat, DeclFault>
+) -> Result<Flat, ReadFault>
     requires { IsOfFile parts.now }
     ensures { ReadsBlock flat_shape result (ahead_of block.new) (flat_by (sections_of parts.now) tag (ahead_of block.old)) }
 {
@@ -98,7 +97,7 @@ fn read_qualified(
     alloc: Global,
     parts: &Parts<'_>,
     block: &mut Block<'_>,
-) -> Result<QName, DeclFault>
+) -> Result<QName, ReadFault>
     requires { IsOfFile parts.now }
     ensures each { (make : Text → Text → Shape) → ReadsBlock (λ q. make q.name q.path) result (ahead_of block.new) (qualified_at (sections_of parts.now) make (ahead_of block.old)) }
 {
@@ -109,13 +108,13 @@ fn read_qualified(
 
 /// A length and the element's type.
 #[tactic(auto, unfolding(decl_spelling::specs::Descriptors::array_at))]
-fn read_array(block: &mut Block<'_>) -> Result<Flat, DeclFault>
+fn read_array(block: &mut Block<'_>) -> Result<Flat, ReadFault>
     ensures { ReadsBlock flat_shape result (ahead_of block.new) (array_at (ahead_of block.old)) }
 {
     let at = block.cursor.place() as u64;
     let value = read_number(block)?;
     if value > i64::MAX as u64 {
-        return Err(DeclFault::Bytes(ByteFault::Range { at, value }));
+        return Err(ReadFault::Bytes(ByteFault::Range { at, value }));
     }
     let ty = read_type(block, Demand::Any)?;
     Ok(Flat::Array(value, ty))
@@ -123,13 +122,13 @@ fn read_array(block: &mut Block<'_>) -> Result<Flat, DeclFault>
 
 /// A direction and the element's type.
 #[tactic(auto, unfolding(decl_spelling::specs::Descriptors::chan_at))]
-fn read_chan(block: &mut Block<'_>) -> Result<Flat, DeclFault>
+fn read_chan(block: &mut Block<'_>) -> Result<Flat, ReadFault>
     ensures { ReadsBlock flat_shape result (ahead_of block.new) (chan_at (ahead_of block.old)) }
 {
     let at = block.cursor.place() as u64;
     let value = read_number(block)?;
     let Some(dir) = dir_of(value) else {
-        return Err(DeclFault::Bytes(ByteFault::Tag { at, value }));
+        return Err(ReadFault::Bytes(ByteFault::Tag { at, value }));
     };
     let ty = read_type(block, Demand::Any)?;
     Ok(Flat::Chan(dir, ty))
@@ -137,7 +136,7 @@ fn read_chan(block: &mut Block<'_>) -> Result<Flat, DeclFault>
 
 /// The key's type and the element's.
 #[tactic(auto, unfolding(decl_spelling::specs::Descriptors::map_at))]
-fn read_map(block: &mut Block<'_>) -> Result<Flat, DeclFault>
+fn read_map(block: &mut Block<'_>) -> Result<Flat, ReadFault>
     ensures { ReadsBlock flat_shape result (ahead_of block.new) (map_at (ahead_of block.old)) }
 {
     let key = read_type(block, Demand::Any)?;
@@ -147,7 +146,7 @@ fn read_map(block: &mut Block<'_>) -> Result<Flat, DeclFault>
 
 /// The path of its package, and a signature.
 #[tactic(auto, unfolding(decl_spelling::specs::Descriptors::func_at))]
-fn read_func(alloc: Global, parts: &Parts<'_>, block: &mut Block<'_>) -> Result<Flat, DeclFault>
+fn read_func(alloc: Global, parts: &Parts<'_>, block: &mut Block<'_>) -> Result<Flat, ReadFault>
     requires { IsOfFile parts.now }
     ensures { ReadsBlock flat_shape result (ahead_of block.new) (func_at (sections_of parts.now) (ahead_of block.old)) }
 {
@@ -158,7 +157,7 @@ fn read_func(alloc: Global, parts: &Parts<'_>, block: &mut Block<'_>) -> Result<
 
 /// The path of its package, and the fields.
 #[tactic(auto, unfolding(decl_spelling::specs::Descriptors::struct_at))]
-fn read_struct(alloc: Global, parts: &Parts<'_>, block: &mut Block<'_>) -> Result<Flat, DeclFault>
+fn read_struct(alloc: Global, parts: &Parts<'_>, block: &mut Block<'_>) -> Result<Flat, ReadFault>
     requires { IsOfFile parts.now }
     ensures { ReadsBlock flat_shape result (ahead_of block.new) (struct_at (sections_of parts.now) (ahead_of block.old)) }
 {
@@ -173,7 +172,7 @@ fn read_interface(
     alloc: Global,
     parts: &Parts<'_>,
     block: &mut Block<'_>,
-) -> Result<Flat, DeclFault>
+) -> Result<Flat, ReadFault>
     requires { IsOfFile parts.now }
     ensures { ReadsBlock flat_shape result (ahead_of block.new) (interface_at (sections_of parts.now) (ahead_of block.old)) }
 {
@@ -185,7 +184,7 @@ fn read_interface(
 
 /// A position, which isn't kept, the arguments and the generic type.
 #[tactic(auto, unfolding(decl_spelling::specs::Descriptors::instance_at))]
-fn read_instance(alloc: Global, parts: &Parts<'_>, block: &mut Block<'_>) -> Result<Flat, DeclFault>
+fn read_instance(alloc: Global, parts: &Parts<'_>, block: &mut Block<'_>) -> Result<Flat, ReadFault>
     requires { IsOfFile parts.now }
     ensures { ReadsBlock flat_shape result (ahead_of block.new) (instance_at (sections_of parts.now) (ahead_of block.old)) }
 {
@@ -197,7 +196,7 @@ fn read_instance(alloc: Global, parts: &Parts<'_>, block: &mut Block<'_>) -> Res
 
 /// The terms.
 #[tactic(auto, unfolding(decl_spelling::specs::Descriptors::union_at))]
-fn read_union(alloc: Global, parts: &Parts<'_>, block: &mut Block<'_>) -> Result<Flat, DeclFault>
+fn read_union(alloc: Global, parts: &Parts<'_>, block: &mut Block<'_>) -> Result<Flat, ReadFault>
     requires { IsOfFile parts.now }
     ensures { ReadsBlock flat_shape result (ahead_of block.new) (union_at (ahead_of block.old)) }
 {

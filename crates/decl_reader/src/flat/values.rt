@@ -7,12 +7,11 @@ ghost use Rattle.decl_reader.specs.Calls.{ReadsBlock, ahead_of, sections_of};
 ghost use Rattle.decl_reader.specs.Spellings.{IsSpelling, IsKind, spelling_shape, kind_shape};
 
 use crate::block::{Block, read_text, read_truth};
-use crate::fault::DeclFault;
 use code_tables::Basic;
 use file_parts::Parts;
 use go_values::Const;
 use std::alloc::Global;
-use wire_bytes::{ByteFault, uvarint_of};
+use wire_bytes::{ByteFault, ReadFault, uvarint_of};
 
 /// How the values of a basic type are spelled.
 #[derive(Clone, Copy, Debug, PartialEq, Eq)]
@@ -74,7 +73,7 @@ pub(crate) fn read_value(
     parts: &Parts<'_>,
     spelling: Spelling,
     block: &mut Block<'_>,
-) -> Result<Const, DeclFault>
+) -> Result<Const, ReadFault>
     requires sections { IsOfFile parts.now }
     requires spelling { IsSpelling spelling }
     ensures { ReadsBlock (λ x. x) result (ahead_of block.new) (value_at (sections_of parts.now) (spelling_shape spelling) (ahead_of block.old)) }
@@ -83,7 +82,7 @@ pub(crate) fn read_value(
     read_spelled(alloc, parts, spelling, block)
 }
 
-fn read_kind(version: u8, spelling: Spelling, block: &mut Block<'_>) -> Result<(), DeclFault>
+fn read_kind(version: u8, spelling: Spelling, block: &mut Block<'_>) -> Result<(), ReadFault>
     ensures { ReadsBlock (λ _. tt) result (ahead_of block.new) (kind_at version (spelling_shape spelling) (ahead_of block.old)) }
 {
     if version == 1 {
@@ -93,7 +92,7 @@ fn read_kind(version: u8, spelling: Spelling, block: &mut Block<'_>) -> Result<(
 }
 
 #[tactic(auto, unfolding(decl_spelling::specs::Constants::kind_given_at))]
-fn read_given_kind(spelling: Spelling, block: &mut Block<'_>) -> Result<(), DeclFault>
+fn read_given_kind(spelling: Spelling, block: &mut Block<'_>) -> Result<(), ReadFault>
     ensures { ReadsBlock (λ _. tt) result (ahead_of block.new) (kind_given_at (spelling_shape spelling) (ahead_of block.old)) }
 {
     let at = block.cursor.place() as u64;
@@ -101,7 +100,7 @@ fn read_given_kind(spelling: Spelling, block: &mut Block<'_>) -> Result<(), Decl
     if value == 2 * kind_number(spelling) {
         Ok(())
     } else {
-        Err(DeclFault::Bytes(ByteFault::Tag { at, value }))
+        Err(ReadFault::Bytes(ByteFault::Tag { at, value }))
     }
 }
 
@@ -121,7 +120,7 @@ fn read_spelled(
     parts: &Parts<'_>,
     spelling: Spelling,
     block: &mut Block<'_>,
-) -> Result<Const, DeclFault>
+) -> Result<Const, ReadFault>
     requires sections { IsOfFile parts.now }
     requires spelling { IsSpelling spelling }
     ensures { ReadsBlock (λ x. x) result (ahead_of block.new) (spelled_at (sections_of parts.now) (spelling_shape spelling) (ahead_of block.old)) }

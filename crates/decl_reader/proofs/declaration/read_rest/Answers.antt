@@ -1,11 +1,15 @@
+use Rattle.std.proofs.Common.{Err, ap, ◌∙◌}
 use Rattle.std.proofs.lemmas.Result.{err_from_is_err_and}
 use Rattle.type_terms.specs.Declarations.{constant_of}
 use Rattle.decl_spelling.specs.Constants.{basic_type}
 use Rattle.decl_spelling.specs.Declarations.{read}
 use Rattle.decl_spelling.specs.Tables.{type_named}
+use Rattle.decl_reader.specs.declared.fault.DeclFault.{DeclFault}
+use Rattle.decl_reader.specs.Faults.{of_read}
 use Rattle.decl_reader.specs.Blocks.{table_of}
 use Rattle.decl_reader.specs.Calls.{sections_of, ahead_of}
 use Rattle.decl_reader.specs.Wholes.{value_by}
+use Rattle.decl_reader.proofs.Running.{never_full}
 use Rattle.decl_reader.proofs.Wholes.{value_then, then_fault, fault_as}
 use Rattle.decl_reader.proofs.declaration.read_rest.Goals as goal
 
@@ -17,5 +21,10 @@ returns-in_err-value-in-Constant-clause-exact g c =
     let a = ahead_of c.args.block.now in
     let k = c.in-Constant in
     let p = err_from_is_err_and c.from_residual-in_err-value-in-Constant.result c.from_residual-in_err-value-in-Constant.ensures.1 in
-    rw (p.1, p.2, k.is) (fault_as _ _ c.in_err-value-in-Constant.field-0.0 (value_then src basics k.pos k.ty k.at a done)
-    (then_fault (value_by src k.at (basic_type basics (type_named src.version done k.ty)) a) (λ value. read (constant_of k.pos k.ty value.0) value.1 done) c.in_err-value-in-Constant.field-0.0 c.in_err-value-in-Constant.ensures.exact))
+    rw (p.1, p.2, k.is) (fault_as _ _ (of_read c.in_err-value-in-Constant.field-0.0) (value_then src basics k.pos k.ty k.at a done)
+    (then_fault (value_by src k.at (basic_type basics (type_named src.version done k.ty)) a) (λ value. read (constant_of k.pos k.ty value.0) value.1 done) (of_read c.in_err-value-in-Constant.field-0.0) c.in_err-value-in-Constant.ensures))
+
+pub returns-in_err-value-in-Constant-clause-full : goal.returns-in_err-value-in-Constant-clause-full
+returns-in_err-value-in-Constant-clause-full g c full =
+    let p = err_from_is_err_and c.from_residual-in_err-value-in-Constant.result c.from_residual-in_err-value-in-Constant.ensures.1 in
+    absurd (never_full c.from_residual-in_err-value-in-Constant.result c.in_err-value-in-Constant.field-0.0 (p.1 ∙ ap (λ (e : DeclFault). Err e) p.2) full)

@@ -22,4 +22,4 @@ check_finished-requires c =
 
 pub returns-in_ok-open_at-in-None : goal.returns-in_ok-open_at-in-None
 returns-in_ok-open_at-in-None c =
-    c.in_ok-open_at-in-None.ensures.begun c.args.arena.now.nodes (sym (c.at.ensures.found c.args.arena.now.nodes) ∙ ap (option_map (finished_of c.args.arena.now.nodes)) c.in-None.is)
+    c.in_ok-open_at-in-None.ensures c.args.arena.now.nodes (sym (c.at.ensures.found c.args.arena.now.nodes) ∙ ap (option_map (finished_of c.args.arena.now.nodes)) c.in-None.is)

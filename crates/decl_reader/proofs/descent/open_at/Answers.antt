@@ -6,7 +6,7 @@ use Rattle.decl_spelling.specs.Tables.{free_to}
 use Rattle.decl_spelling.proofs.Decided.{strings_are, body_is}
 use Rattle.decl_spelling.proofs.TableLaws.{free_within}
 use Rattle.decl_reader.specs.Blocks.{table_of}
-use Rattle.decl_reader.specs.declared.fault.DeclFault.{DeclFault}
+use Rattle.wire_bytes.specs.declared.fault.ReadFault.{ReadFault}
 use Rattle.decl_reader.specs.Calls.{sections_of, ahead_of, Stops}
 use Rattle.decl_reader.specs.Shapes.{flat_shape}
 use Rattle.decl_reader.proofs.Beginnings.{free_at_least, whole, begun_whole, begun_fault, body_length}
@@ -41,8 +41,8 @@ overflow_sub-own c =
     (ap (flat_at src) (sym c.new-block.ensures) ∙ c.in-Ok.ensures) in
     omega (arith, read.begun, c.place.ensures.place)
 
-pub returns-clause-begun : goal.returns-clause-begun
-returns-clause-begun c nodes none =
+pub returns : goal.returns
+returns c nodes none =
     let o = c.args.named.value - 32 in
     let src = sections_of c.args.parts.now in
     let within : c.args.holder ≤ c.args.parts.now.body_len = c.requires.within in
@@ -55,5 +55,5 @@ returns-clause-begun c nodes none =
           w.in-Ok.flat c.read_flat.new.block c.match-read_flat.own (there ∙ w.in-Ok.ensures) (w.own-is ∙ ap (λ (at : ℕ). Ok (w.in-Ok.flat, at - c.args.parts.now.body_at)) w.place.ensures.place)
       | in-Err-Bytes w ↦ begun_fault src c.requires.bytes c.args.table.now.blocks.entries c.requires.stacked nodes c.args.holder c.args.named c.requires.large c.requires.before (omega (arith, within, size)) none
           c.read_flat.new.block w.in-Err-Bytes.fault c.match-read_flat.own
-          (there ∙ subst (λ (e : DeclFault). Stops e (ahead_of c.read_flat.new.block) (flat_at src (ahead_of c.new-block.result))) w.in-Err-Bytes.field-0-is w.in-Err-Bytes.ensures) w.own-is
+          (there ∙ subst (λ (e : ReadFault). Stops e (ahead_of c.read_flat.new.block) (flat_at src (ahead_of c.new-block.result))) w.in-Err-Bytes.field-0-is w.in-Err-Bytes.ensures) w.own-is
     ]

@@ -1,11 +1,12 @@
-use Rattle.std.proofs.Common.{◌≡◌, sym, ap, subst, ◌∙◌, ◌++◌, ◌∷◌, [], List, arith}
+use Rattle.std.proofs.Common.{◌≡◌, sym, ap, subst, ◌∙◌, ◌++◌, ◌∷◌, [], List, Err, arith}
 use Rattle.std.specs.Prelude.{reverse}
 use Rattle.std.proofs.lemmas.List.{reverse-reverse}
 use Rattle.std.proofs.lemmas.Result.{err_from_is_err_and}
 use Rattle.decl_reader.specs.declared.descent.Open.{Open}
+use Rattle.decl_reader.specs.declared.fault.DeclFault.{DeclFault}
 use Rattle.decl_reader.specs.Blocks.{table_of}
 use Rattle.decl_reader.specs.Calls.{sections_of}
-use Rattle.decl_reader.proofs.Running.{Running, none_goes_on, some_opens, some_smaller, returns_to, fault_resolves, never_full, full_is, known_smaller, last_first}
+use Rattle.decl_reader.proofs.Running.{Running, none_goes_on, some_opens, some_smaller, returns_to, fault_resolves, never_full, known_smaller, last_first}
 use Rattle.decl_reader.proofs.descent.read_open.Goals as goal
 
 pub returns-in_err-begin-clause-exact : goal.returns-in_err-begin-clause-exact
@@ -19,7 +20,7 @@ returns-in_err-begin-clause-exact g c =
 pub returns-in_err-begin-clause-full : goal.returns-in_err-begin-clause-full
 returns-in_err-begin-clause-full g c full =
     let p = err_from_is_err_and c.from_residual.result c.from_residual.ensures.1 in
-    absurd (never_full (sections_of c.args.parts.now) (table_of c.loop-current.arena.nodes c.loop-current.table.blocks.entries) c.loop-current.table.blocks.entries c.loop-current.current.start c.index-named.result.now c.in_err-begin.field-0.0 c.in_err-begin.ensures (sym p.2 ∙ full_is c.from_residual.result p.0 p.1 full))
+    absurd (never_full c.from_residual.result c.in_err-begin.field-0.0 (p.1 ∙ ap (λ (e : DeclFault). Err e) p.2) full)
 
 pub loop-current-smaller-in-None : goal.loop-current-smaller-in-None
 loop-current-smaller-in-None g c =
