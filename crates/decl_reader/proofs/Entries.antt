@@ -7,7 +7,6 @@ use Rattle.std.specs.Ordering.{nat_cmp, is_eq, match_ordering}
 use Rattle.std.specs.declared.cmp.Ordering.{Ordering}
 use Rattle.std.specs.declared.cmp.Ordering.TheVariants.{Less, Equal, Greater}
 use Rattle.std.specs.Cmp.{nat_cmp_is}
-use Rattle.std.specs.BTreeMap.{insert_entry}
 use Rattle.std.proofs.lemmas.Bool.{cases_lt, le-ltb}
 use Rattle.type_terms.specs.declared.descriptors.Node.{Node}
 use Rattle.code_tables.specs.declared.predeclared.Basic.TheVariants.{Bool as bool_type}
@@ -15,7 +14,7 @@ use Rattle.type_terms.specs.Trees.{predeclared}
 use Rattle.decl_spelling.specs.Codes.{basic_of}
 use Rattle.decl_spelling.specs.Tables.{Table, at, with_block, basic_tree, finished_tree, type_named}
 use Rattle.decl_reader.specs.declared.table.Finished.{Finished}
-use Rattle.decl_reader.specs.Blocks.{Entry, finished_of, table_of, AllInside, EndsBy, HasRoom, IsStacked, bytes_of}
+use Rattle.decl_reader.specs.Blocks.{Entry, finished_of, table_of, with_entry, AllInside, EndsBy, HasRoom, IsStacked, bytes_of}
 
 abbrev pub found : List Entry → ℕ → Option Finished
 found es offset = lookup (λ start. is_eq (nat_cmp offset start)) es
@@ -39,9 +38,6 @@ found_inside size (e ∷ es) offset all = if_found (λ f. f.node < size) (is_eq 
 
 -- ---- adding
 
-abbrev pub added : List Entry → ℕ → Finished → List Entry
-added es offset f = insert_entry nat_cmp es offset f
-
 by_order : (nodes : List Node) (r : Ordering) (offset : ℕ) (f : Finished) (e : Entry) (es rest : List Entry) (more : List _) → table_of nodes rest ≡ more
     → table_of nodes (match_ordering r ((offset, f) ∷ e ∷ es) ((e.0, f) ∷ es) (e ∷ rest))
     ≡ match_ordering r ((offset, finished_of nodes f) ∷ (e.0, finished_of nodes e.1) ∷ table_of nodes es) ((e.0, finished_of nodes f) ∷ table_of nodes es) ((e.0, finished_of nodes e.1) ∷ more)
@@ -49,9 +45,9 @@ by_order nodes Less offset f e es rest more same = refl
 by_order nodes Equal offset f e es rest more same = refl
 by_order nodes Greater offset f e es rest more same = ap (λ xs. (e.0, finished_of nodes e.1) ∷ xs) same
 
-pub added_table : (nodes : List Node) (es : List Entry) (offset : ℕ) (f : Finished) → table_of nodes (added es offset f) ≡ with_block (table_of nodes es) offset (finished_of nodes f)
+pub added_table : (nodes : List Node) (es : List Entry) (offset : ℕ) (f : Finished) → table_of nodes (with_entry es offset f) ≡ with_block (table_of nodes es) offset (finished_of nodes f)
 added_table nodes [] offset f = refl
-added_table nodes (e ∷ es) offset f = by_order nodes (nat_cmp offset e.0) offset f e es (added es offset f) (with_block (table_of nodes es) offset (finished_of nodes f)) (added_table nodes es offset f)
+added_table nodes (e ∷ es) offset f = by_order nodes (nat_cmp offset e.0) offset f e es (with_entry es offset f) (with_block (table_of nodes es) offset (finished_of nodes f)) (added_table nodes es offset f)
 
 -- a property of the start and of what is finished
 module _ (P : Entry → Type 0) where
@@ -61,17 +57,17 @@ module _ (P : Entry → Type 0) where
   by_place Equal offset f e es rest same one first others more = (same refl, others)
   by_place Greater offset f e es rest same one first others more = (first, more)
 
-  pub added_all : (es : List Entry) (offset : ℕ) (f : Finished) → ((e : Entry) → nat_cmp offset e.0 ≡ Equal → P (e.0, f)) → P (offset, f) → AllByRecursion P es → AllByRecursion P (added es offset f)
+  pub added_all : (es : List Entry) (offset : ℕ) (f : Finished) → ((e : Entry) → nat_cmp offset e.0 ≡ Equal → P (e.0, f)) → P (offset, f) → AllByRecursion P es → AllByRecursion P (with_entry es offset f)
   added_all [] offset f same one all = (one, tt)
-  added_all (e ∷ es) offset f same one all = by_place (nat_cmp offset e.0) offset f e es (added es offset f) (same e) one all.0 all.1 (added_all es offset f same one all.1)
+  added_all (e ∷ es) offset f same one all = by_place (nat_cmp offset e.0) offset f e es (with_entry es offset f) (same e) one all.0 all.1 (added_all es offset f same one all.1)
 
-pub added_inside : (size : ℕ) (es : List Entry) (offset : ℕ) (f : Finished) → AllInside size es → f.node < size → AllInside size (added es offset f)
+pub added_inside : (size : ℕ) (es : List Entry) (offset : ℕ) (f : Finished) → AllInside size es → f.node < size → AllInside size (with_entry es offset f)
 added_inside size es offset f all new = added_all (λ e. e.1.node < size) es offset f (λ e same. new) new all
 
-pub added_ends : (limit : ℕ) (es : List Entry) (offset : ℕ) (f : Finished) → EndsBy limit es → f.end ≤ limit → EndsBy limit (added es offset f)
+pub added_ends : (limit : ℕ) (es : List Entry) (offset : ℕ) (f : Finished) → EndsBy limit es → f.end ≤ limit → EndsBy limit (with_entry es offset f)
 added_ends limit es offset f all new = added_all (λ e. e.1.end ≤ limit) es offset f (λ e same. new) new all
 
-pub added_room : (from to : ℕ) (es : List Entry) (offset : ℕ) (f : Finished) → f.end ≤ from → HasRoom from to es → HasRoom from to (added es offset f)
+pub added_room : (from to : ℕ) (es : List Entry) (offset : ℕ) (f : Finished) → f.end ≤ from → HasRoom from to es → HasRoom from to (with_entry es offset f)
 added_room from to es offset f ends all = added_all (λ e. (e.1.end ≤ from) ⊎ (to ≤ e.0)) es offset f (λ e same. inl ends) (inl ends) all
 
 -- ---- in order
@@ -108,8 +104,8 @@ from_end m n [] le all = tt
 from_end m n (e ∷ es) le all = (omega (arith, all.0), from_end m n es le all.1)
 
 module _ (offset : ℕ) (f : Finished) (some : offset < f.end) where
-  by_order_stacked : (e : Entry) (es : List Entry) (r : Ordering) → nat_cmp offset e.0 ≡ r → IsStacked (e ∷ es) → HasRoom offset f.end (e ∷ es) → IsStacked (added es offset f)
-      → IsStacked (match_ordering r ((offset, f) ∷ e ∷ es) ((e.0, f) ∷ es) (e ∷ added es offset f))
+  by_order_stacked : (e : Entry) (es : List Entry) (r : Ordering) → nat_cmp offset e.0 ≡ r → IsStacked (e ∷ es) → HasRoom offset f.end (e ∷ es) → IsStacked (with_entry es offset f)
+      → IsStacked (match_ordering r ((offset, f) ∷ e ∷ es) ((e.0, f) ∷ es) (e ∷ with_entry es offset f))
   by_order_stacked e es Less is stacked room rest =
       let less : offset < e.0 = is_less offset e.0 is in
       let before : f.end ≤ e.0 = elim room.0 [ inl ended ↦ absurd (omega (arith, stacked.0)) | inr later ↦ later ] in
@@ -122,19 +118,19 @@ module _ (offset : ℕ) (f : Finished) (some : offset < f.end) where
       let ends : e.1.end ≤ offset = elim room.0 [ inl ended ↦ ended | inr later ↦ absurd (omega arith) ] in
       (stacked.0, added_all (λ x. e.1.end ≤ x.0) es offset f (λ x same. let at : offset ≡ x.0 = is_equal offset x.0 same in omega arith) ends stacked.1, rest)
 
-  pub added_stacked : (es : List Entry) → IsStacked es → HasRoom offset f.end es → IsStacked (added es offset f)
+  pub added_stacked : (es : List Entry) → IsStacked es → HasRoom offset f.end es → IsStacked (with_entry es offset f)
   added_stacked [] stacked room = (some, tt, tt)
   added_stacked (e ∷ es) stacked room = by_order_stacked e es (nat_cmp offset e.0) refl stacked room (added_stacked es stacked.2 room.1)
 
-  by_order_bytes : (e : Entry) (es : List Entry) (r : Ordering) → nat_cmp offset e.0 ≡ r → e.0 < e.1.end → HasRoom offset f.end (e ∷ es) → bytes_of (added es offset f) ≡ bytes_of es + (f.end - offset)
-      → bytes_of (match_ordering r ((offset, f) ∷ e ∷ es) ((e.0, f) ∷ es) (e ∷ added es offset f)) ≡ bytes_of (e ∷ es) + (f.end - offset)
+  by_order_bytes : (e : Entry) (es : List Entry) (r : Ordering) → nat_cmp offset e.0 ≡ r → e.0 < e.1.end → HasRoom offset f.end (e ∷ es) → bytes_of (with_entry es offset f) ≡ bytes_of es + (f.end - offset)
+      → bytes_of (match_ordering r ((offset, f) ∷ e ∷ es) ((e.0, f) ∷ es) (e ∷ with_entry es offset f)) ≡ bytes_of (e ∷ es) + (f.end - offset)
   by_order_bytes e es Less is byte room rest = omega arith
   by_order_bytes e es Equal is byte room rest =
       let same : offset ≡ e.0 = is_equal offset e.0 is in
       absurd (elim room.0 [ inl ended ↦ omega (arith, byte) | inr later ↦ omega arith ])
   by_order_bytes e es Greater is byte room rest = omega (arith, rest)
 
-  pub added_bytes : (es : List Entry) → IsStacked es → HasRoom offset f.end es → bytes_of (added es offset f) ≡ bytes_of es + (f.end - offset)
+  pub added_bytes : (es : List Entry) → IsStacked es → HasRoom offset f.end es → bytes_of (with_entry es offset f) ≡ bytes_of es + (f.end - offset)
   added_bytes [] stacked room = omega arith
   added_bytes (e ∷ es) stacked room = by_order_bytes e es (nat_cmp offset e.0) refl stacked.0 room (added_bytes es stacked.2 room.1)
 

@@ -5,8 +5,9 @@ use Rattle.std.specs.Option.{option_map}
 use Rattle.wire_bytes.proofs.Spellings.{IsBytes}
 use Rattle.wire_bytes.proofs.Texts.{IsBytes-drop}
 use Rattle.file_parts.specs.declared.parts.Parts.{Parts}
-use Rattle.decl_spelling.specs.Sections.{Sections}
+use Rattle.decl_spelling.specs.Sections.{Sections, HoldsBytes}
 use Rattle.decl_spelling.specs.Heads.{Lead, IsHead, head_lead}
+use Rattle.decl_spelling.proofs.Decided.{strings_are, body_is}
 use Rattle.decl_spelling.proofs.Windows.{IsBytes-take}
 use Rattle.decl_spelling.proofs.LeadsTaken.{AreBytes, head_taken}
 use Rattle.decl_spelling.proofs.LeadsAgain.{head_again}
@@ -21,9 +22,10 @@ are_bytes p fits = record {
   body = IsBytes-take _ _ (IsBytes-drop p.body_at p.file.now fits);
 }
 
-pub is_head : (p : Parts) (offset : ℕ) (result : Option Head) → IsBytes p.file.now → option_map lead result ≡ head_lead (sections_of p) offset → IfSome result (λ head. IsHead (sections_of p) offset (lead head))
-is_head p offset (Some head) fits e = head_taken (sections_of p) offset (lead head) (are_bytes p fits) (sym e)
-is_head p offset None fits e = tt
+pub is_head : (p : Parts) (offset : ℕ) (result : Option Head) → HoldsBytes (sections_of p) → option_map lead result ≡ head_lead (sections_of p) offset → IfSome result (λ head. IsHead (sections_of p) offset (lead head))
+is_head p offset (Some head) holds e =
+    head_taken (sections_of p) offset (lead head) (record { strings = strings_are (sections_of p) holds; body = body_is (sections_of p) holds }) (sym e)
+is_head p offset None holds e = tt
 
 pub is_no_head : (p : Parts) (offset : ℕ) (result : Option Head) → option_map lead result ≡ head_lead (sections_of p) offset → IfNone result ((lead : Lead) → IsHead (sections_of p) offset lead → ⊥)
 is_no_head p offset (Some head) e = tt

@@ -1,4 +1,3 @@
-pub mod Windows
 pub mod Lists
 pub mod Passing
 pub mod Found
@@ -14,3 +13,4 @@ pub mod Generic
 pub mod Wholes
 pub mod Counted
 pub mod Proper
+pub mod ProgressLemmas

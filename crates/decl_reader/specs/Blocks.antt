@@ -3,6 +3,7 @@ use Rattle.std.specs.Prelude.{◌≡◌, ℕ, ◌+◌, ◌-◌, ◌<◌, ◌≤�
 use Rattle.std.specs.List.{AllByRecursion}
 use Rattle.std.specs.Ordering.{nat_cmp}
 use Rattle.std.specs.declared.ops.Bound.TheVariants.{Included, Unbounded}
+use Rattle.std.specs.BTreeMap.{insert_entry}
 use Rattle.std.specs.BTreeMap.Range.{entries_between}
 use Rattle.type_terms.specs.declared.descriptors.Node.{Node}
 use Rattle.type_terms.specs.Denotation.{tree}
@@ -21,6 +22,10 @@ entry_of nodes entry = (entry.0, finished_of nodes entry.1)
 
 abbrev pub table_of : List Node → List Entry → of_trees.Table
 table_of nodes entries = map (entry_of nodes) entries
+
+-- with one more
+abbrev pub with_entry : List Entry → ℕ → Finished → List Entry
+with_entry entries offset finished = insert_entry nat_cmp entries offset finished
 
 -- their nodes are among so many
 abbrev pub AllInside : ℕ → List Entry → Type 0

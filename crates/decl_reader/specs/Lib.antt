@@ -7,5 +7,6 @@ pub mod Leads
 pub mod Blocks
 pub mod Frames
 pub mod Opens
+pub mod Progress
 pub mod Meant
 pub mod Wholes

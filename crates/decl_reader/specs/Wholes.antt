@@ -1,5 +1,5 @@
 -- What the calls that read a declaration answer.
-use Rattle.std.specs.Prelude.{◌≡◌, ℕ, ◌+◌, ◌-◌, List, [], Bool, true, false, Result, Ok, Err, Option}
+use Rattle.std.specs.Prelude.{◌≡◌, ℕ, ◌+◌, ◌-◌, List, [], Bool, true, false, Result, Ok, Err, IfOk, Option}
 use Rattle.std.specs.List.{sum_by}
 use Rattle.code_tables.specs.declared.predeclared.Basic.{Basic}
 use Rattle.go_values.specs.declared.constants.Const.{Const}
@@ -57,6 +57,10 @@ IsWhole (Err e) ahead known read = FaultIs e read
 -- the bytes of the descriptors that a declaration reaches, each once, and its own
 abbrev pub reached : Sections → ℕ → Read → ℕ
 reached src offset x = sum_by (λ entry. entry.1.end - entry.0) x.table + (x.end - (src.body_at + offset))
+
+-- where a declaration is read whole, the steps are the bytes that it reaches
+abbrev pub CountsReached : {X : Type 0} → Sections → ℕ → Result X DeclFault → Result Read ByteFault → ℕ → ℕ → Type 0
+CountsReached src offset result read before after = IfOk result (λ _. IfOk read (λ x. after ≡ before + reached src offset x))
 
 -- a declaration whose types are nodes
 abbrev pub ReadsDecl : Result DeclNode DeclFault → List Node → Result Decl ByteFault → Type 0

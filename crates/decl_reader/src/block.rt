@@ -2,7 +2,7 @@
 
 ghost use Rattle.std.specs.Prelude.{◌≡◌, ◌≤◌};
 ghost use Rattle.file_parts.specs.FileParts.{IsOfFile};
-ghost use Rattle.decl_spelling.specs.Sections.{window};
+ghost use Rattle.decl_spelling.specs.Sections.{HoldsBytes, window};
 ghost use Rattle.decl_spelling.specs.Reading.{start, number_at, truth_at, text_at, path_at, pos_at, type_at};
 ghost use Rattle.decl_reader.specs.Calls.{ReadsBlock, ahead_of, sections_of};
 
@@ -27,11 +27,11 @@ impl<'a> Block<'a> {
         requires sections { IsOfFile parts.now }
         requires order { from ≤ to }
         requires inside { to ≤ parts.now.body_len }
-        ensures { ahead_of result ≡ start (window (sections_of parts.now) from to) }
+        ensures ahead { ahead_of result ≡ start (window (sections_of parts.now) from to) }
+        ensures bytes { HoldsBytes (sections_of parts.now) }
     {
-        let at = parts.body_at as usize;
         Block {
-            cursor: Cursor::new(parts.file, at + from as usize, at + to as usize),
+            cursor: parts.cursor(from, to),
             before: PrevPos::start(alloc),
             mentions: Vec::new(alloc),
         }

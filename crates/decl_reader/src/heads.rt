@@ -1,8 +1,8 @@
 //! The head of a declaration of a type: as much of it as leads on to its type's name.
 
-ghost use Rattle.std.specs.Prelude.{◌≡◌, ◌≤◌, ◌<◌, ◌-◌, ℕ, drop, get_or, option_map, IfSome, IfNone};
+ghost use Rattle.std.specs.Prelude.{◌≡◌, ◌≤◌, ◌<◌, ◌-◌, ℕ, drop, option_map, IfSome, IfNone};
 ghost use Rattle.file_parts.specs.FileParts.{IsOfFile};
-ghost use Rattle.decl_spelling.specs.Sections.{Sections};
+ghost use Rattle.decl_spelling.specs.Sections.{Sections, HoldsBytes};
 ghost use Rattle.decl_spelling.specs.Heads.{Lead, IsHead, find_byte, find_number, find_signed, find_text, pass_file, pass_line, pass_position, pass_times, pass_numbers, find_name, name_by, name_at, find_base, type_by, lead_at, lead_of, pass_tparams, head_lead};
 ghost use Rattle.position_codec.specs.Place.{is_odd};
 ghost use Rattle.decl_reader.specs.Calls.{sections_of};
@@ -32,7 +32,6 @@ pub fn read_head<'a>(parts: &Parts<'a>, offset: u64) -> Option<Head<'a>>
     ensures none { IfNone result ((lead : Lead) → IsHead (sections_of parts.now) offset lead → ⊥) }
     ensures exact { option_map lead result ≡ head_lead (sections_of parts.now) offset }
 {
-    are_bytes(parts.file);
     lead_from(parts, offset)
 }
 
@@ -41,15 +40,11 @@ pub fn one_head()
     ensures { (src : Sections) (start : ℕ) (a b : Lead) → IsHead src start a → IsHead src start b → a ≡ b }
 {}
 
-/// Tells a proof what the type of a slice says, which it doesn't know of a slice in a struct behind a reference.
-pub(crate) fn are_bytes(bytes: &[u8])
-    ensures { (i : ℕ) → get_or bytes.now i 0 < 256 }
-{}
-
 #[tactic(auto, unfolding(decl_spelling::specs::Heads::head_lead))]
 fn lead_from<'a>(parts: &Parts<'a>, offset: u64) -> Option<Head<'a>>
     requires { IsOfFile parts.now }
-    ensures { option_map lead result ≡ head_lead (sections_of parts.now) offset }
+    ensures exact { option_map lead result ≡ head_lead (sections_of parts.now) offset }
+    ensures bytes { HoldsBytes (sections_of parts.now) }
 {
     let mut cursor = cursor_at(parts, offset);
     let letter = find_byte(&mut cursor)?;
@@ -63,15 +58,10 @@ fn lead_from<'a>(parts: &Parts<'a>, offset: u64) -> Option<Head<'a>>
 /// What is left of the data section at an offset.
 fn cursor_at<'a>(parts: &Parts<'a>, offset: u64) -> Cursor<'a>
     requires { IsOfFile parts.now }
-    ensures { result.left ≡ drop offset (sections_of parts.now).body }
+    ensures left { result.left ≡ drop offset (sections_of parts.now).body }
+    ensures bytes { HoldsBytes (sections_of parts.now) }
 {
-    let at = parts.body_at as usize;
-    let end = at + parts.body_len as usize;
-    if offset < parts.body_len {
-        Cursor::new(parts.file, at + offset as usize, end)
-    } else {
-        Cursor::new(parts.file, end, end)
-    }
+    parts.cursor(offset.min(parts.body_len), parts.body_len)
 }
 
 fn find_byte(cursor: &mut Cursor<'_>) -> Option<u8>

@@ -13,6 +13,7 @@ mod fault;
 mod flat;
 mod heads;
 mod nodes;
+mod reading;
 mod table;
 
 pub use basics::Basics;

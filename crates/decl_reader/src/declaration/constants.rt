@@ -11,38 +11,41 @@ ghost use Rattle.decl_spelling.specs.Tables.{type_named};
 ghost use Rattle.decl_spelling.specs.Constants.{generic_basic, basic_type};
 ghost use Rattle.decl_reader.specs.Calls.{sections_of, ahead_of};
 ghost use Rattle.decl_reader.specs.Blocks.{AllInside, table_of};
+ghost use Rattle.decl_reader.specs.Progress.{known, IsReadyFor};
 ghost use Rattle.decl_reader.specs.Wholes.{IsValue, value_by};
 
 use crate::basics::Basics;
 use crate::block::Block;
 use crate::codes::basic_named;
 use crate::flat::{Kind, kind_of, read_value};
+use crate::reading::Reading;
 use crate::table::Table;
 use code_tables::Basic;
 use file_parts::Parts;
 use go_values::{Const, QName};
 use std::alloc::Global;
+use std::sync::ledger::Ledger;
 use type_terms::{Arena, Node};
 use wire_bytes::{ByteFault, ReadFault};
 
-/// The value of a constant of this type, whose number stands at `at` in the file.
-pub(crate) fn read_constant<B: Basics>(
-    alloc: Global,
-    parts: &Parts<'_>,
-    ty: u64,
-    at: u64,
-    basics: &B,
-    block: &mut Block<'_>,
-    table: &Table,
-    arena: &Arena,
-) -> Result<Const, ReadFault>
-    requires of_file { IsOfFile parts.now }
-    requires inside { AllInside (length arena.now.nodes) table.now.blocks.entries }
-    ensures { IsValue result (ahead_of block.new) (value_by (sections_of parts.now) at (basic_type (B.meaning basics.now) (type_named parts.now.version (table_of arena.now.nodes table.now.blocks.entries) ty)) (ahead_of block.old)) }
-{
-    match basic_type(parts.version, ty, basics, table, arena) {
-        Some(basic) => read_value_of(alloc, parts, basic, at, block),
-        None => Err(ReadFault::Bytes(ByteFault::NotConst { at })),
+impl<L: Ledger> Reading<'_, L> {
+    /// The value of a constant of this type, whose number stands at `at` in the file.
+    pub(crate) fn read_constant<B: Basics>(
+        &self,
+        parts: &Parts<'_>,
+        ty: u64,
+        at: u64,
+        basics: &B,
+        block: &mut Block<'_>,
+    ) -> Result<Const, ReadFault>
+        requires of_file { IsOfFile parts.now }
+        requires ready { IsReadyFor parts.now self.now }
+        ensures { IsValue result (ahead_of block.new) (value_by (sections_of parts.now) at (basic_type (B.meaning basics.now) (type_named parts.now.version (known self.now) ty)) (ahead_of block.old)) }
+    {
+        match basic_type(parts.version, ty, basics, self.table, self.arena) {
+            Some(basic) => read_value_of(self.alloc, parts, basic, at, block),
+            None => Err(ReadFault::Bytes(ByteFault::NotConst { at })),
+        }
     }
 }
 
@@ -72,8 +75,8 @@ fn basic_type<B: Basics>(
     table: &Table,
     arena: &Arena,
 ) -> Option<Basic>
-    requires inside { AllInside (length arena.now.nodes) table.now.blocks.entries }
-    ensures { result ≡ basic_type (B.meaning basics.now) (type_named version (table_of arena.now.nodes table.now.blocks.entries) ty) }
+    requires inside { AllInside (length arena.now.nodes) table.now }
+    ensures { result ≡ basic_type (B.meaning basics.now) (type_named version (table_of arena.now.nodes table.now) ty) }
 {
     if ty < 32 {
         return Some(basic_named(version, ty));

@@ -28,9 +28,9 @@ pub(crate) fn add_flat(
     table: &Table,
     arena: &mut Arena,
 ) -> Result<NodeId, DeclFault>
-    requires inside { AllInside (length arena.old.nodes) table.now.blocks.entries }
-    requires generic { IsGenericFlat version (table_of arena.old.nodes table.now.blocks.entries) (flat_shape flat) }
-    ensures denotes { IfOk result (λ id. tree arena.new.nodes id ≡ tree_of (retype (type_named version (table_of arena.old.nodes table.now.blocks.entries)) (flat_shape flat))) }
+    requires inside { AllInside (length arena.old.nodes) table.now }
+    requires generic { IsGenericFlat version (table_of arena.old.nodes table.now) (flat_shape flat) }
+    ensures denotes { IfOk result (λ id. tree arena.new.nodes id ≡ tree_of (retype (type_named version (table_of arena.old.nodes table.now)) (flat_shape flat))) }
     ensures within { IfOk result (λ id. id < length arena.new.nodes) }
     ensures extends { Extends arena.old arena.new }
     ensures only_memory { IfErr result IsNoFault }

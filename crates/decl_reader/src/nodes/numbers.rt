@@ -23,8 +23,8 @@ fn node_named(
     table: &Table,
     arena: &mut Arena,
 ) -> Result<NodeId, DeclFault>
-    requires inside { AllInside (length arena.old.nodes) table.now.blocks.entries }
-    ensures named { IfOk result (λ id. tree arena.new.nodes id ≡ named_by version arena.old.nodes table.now.blocks.entries number) }
+    requires inside { AllInside (length arena.old.nodes) table.now }
+    ensures named { IfOk result (λ id. tree arena.new.nodes id ≡ named_by version arena.old.nodes table.now number) }
     ensures within { IfOk result (λ id. id < length arena.new.nodes) }
     ensures extends { Extends arena.old arena.new }
     ensures only_memory { IfErr result IsNoFault }

@@ -12,7 +12,7 @@ returns-clause-meant g c =
     let middle = c.with_nodes.new.arena in
     let stays = meaning_stays a.types a.meant g.met.A.Kept.agrees middle c.with_nodes-2.new.arena c.with_nodes-2.ensures.extends (a.item_shape c.in_ok-first.first) c.in_ok-first.ensures.within in
     let first = stays ∙ c.in_ok-first.ensures.meant in
-    let named = named_stays c.args.arena.now middle c.with_nodes.ensures.extends c.args.version c.args.table.now.blocks.entries c.requires.inside in
+    let named = named_stays c.args.arena.now middle c.with_nodes.ensures.extends c.args.version c.args.table.now c.requires.inside in
     let second = c.in_ok-second.ensures.meant ∙ ap (λ (n : Named). b.meant n (b.shape c.args.self.1)) named in
     λ i. (first i, second i)
 
