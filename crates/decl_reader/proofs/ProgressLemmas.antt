@@ -1,5 +1,5 @@
 -- A reading that goes on twice.
-use Rattle.std.proofs.Common.{◌≡◌, Result, Ok, arith, ◌∙◌}
+use Rattle.std.proofs.Common.{Result, Ok, arith, ◌∙◌}
 use Rattle.std.specs.Prelude.{IsErrOf}
 use Rattle.file_parts.specs.declared.parts.Parts.{Parts}
 use Rattle.type_terms.specs.Extensions.{extends_again}

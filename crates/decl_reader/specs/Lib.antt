@@ -1,4 +1,5 @@
 pub mod Faults
+pub mod TypeOffs
 pub mod Calls
 pub mod Shapes
 pub mod Spellings

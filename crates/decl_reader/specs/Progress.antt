@@ -27,7 +27,8 @@ pub record Adds {L X : Type 0} (old : Reading L) (result : Result X DeclFault) (
   pub same_steps : new.steps.ghost_name ≡ old.steps.ghost_name
 
 -- The reading may go on from there: the table is ready again, and the steps are the bytes that it got.
-pub record GoesOn {L X : Type 0} (p : Parts) (old : Reading L) (result : Result X DeclFault) (new : Reading L) : Type 0 where
+pub record GoesOn {L X : Type 0} (p : Parts) (old : Reading L) (result : Result X DeclFault) (new : Reading L) :
+    Type 0 where
   pub adds : Adds old result new
   pub ready : IsReadyFor p new
   pub counted : Counts old.steps.now old.table.now new.steps.now new.table.now

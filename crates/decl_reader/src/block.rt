@@ -13,7 +13,8 @@ use position_codec::{PrevPos, read_full};
 use std::alloc::Global;
 use wire_bytes::{ByteFault, Cursor, ReadFault, text_at};
 
-/// A block that is being read: what is left of it, the position before its next one, and the types that it has named so far.
+/// A block that is being read: what is left of it, the position before its next one, and the types that it has named so
+/// far.
 #[derive(Drop)]
 pub(crate) struct Block<'a> {
     pub(crate) cursor: Cursor<'a>,
@@ -40,14 +41,14 @@ impl<'a> Block<'a> {
 
 /// The next number.
 pub(crate) fn read_number(block: &mut Block<'_>) -> Result<u64, ReadFault>
-    ensures { ReadsBlock (λ n. n) result (ahead_of block.new) (number_at (ahead_of block.old)) }
+    ensures { ReadsBlock (λ n. n) number_at block.old result block.new }
 {
     Ok(block.cursor.uvarint()?)
 }
 
 /// The next flag.
 pub(crate) fn read_truth(block: &mut Block<'_>) -> Result<bool, ReadFault>
-    ensures { ReadsBlock (λ b. b) result (ahead_of block.new) (truth_at (ahead_of block.old)) }
+    ensures { ReadsBlock (λ b. b) truth_at block.old result block.new }
 {
     Ok(block.cursor.flag()?)
 }
@@ -60,7 +61,7 @@ pub(crate) fn read_text(
     block: &mut Block<'_>,
 ) -> Result<Bytes, ReadFault>
     requires { IsOfFile parts.now }
-    ensures { ReadsBlock (λ t. t) result (ahead_of block.new) (text_at (sections_of parts.now) (ahead_of block.old)) }
+    ensures { ReadsBlock (λ t. t) (text_at (sections_of parts.now)) block.old result block.new }
 {
     let at = block.cursor.place() as u64;
     let offset = read_number(block)?;
@@ -78,7 +79,7 @@ pub(crate) fn read_path(
     block: &mut Block<'_>,
 ) -> Result<Bytes, ReadFault>
     requires { IsOfFile parts.now }
-    ensures { ReadsBlock (λ t. t) result (ahead_of block.new) (path_at (sections_of parts.now) (ahead_of block.old)) }
+    ensures { ReadsBlock (λ t. t) (path_at (sections_of parts.now)) block.old result block.new }
 {
     let at = block.cursor.place() as u64;
     let offset = read_number(block)?;
@@ -95,7 +96,7 @@ pub(crate) fn read_pos(
     block: &mut Block<'_>,
 ) -> Result<Pos, ReadFault>
     requires { IsOfFile parts.now }
-    ensures { ReadsBlock (λ p. p) result (ahead_of block.new) (pos_at (sections_of parts.now) (ahead_of block.old)) }
+    ensures { ReadsBlock (λ p. p) (pos_at (sections_of parts.now)) block.old result block.new }
 {
     read_full(alloc, &mut block.cursor, parts, &mut block.before)
 }
@@ -103,7 +104,7 @@ pub(crate) fn read_pos(
 /// The number of a type, which is noted with what is asked of it.
 #[tactic(auto, unfolding(decl_spelling::specs::Reading::type_at))]
 pub(crate) fn read_type(block: &mut Block<'_>, asked: Demand) -> Result<u64, ReadFault>
-    ensures { ReadsBlock (λ n. n) result (ahead_of block.new) (type_at asked (ahead_of block.old)) }
+    ensures { ReadsBlock (λ n. n) (type_at asked) block.old result block.new }
 {
     let at = block.cursor.place() as u64;
     let value = read_number(block)?;

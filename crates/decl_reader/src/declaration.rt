@@ -7,7 +7,7 @@ ghost use Rattle.type_terms.specs.Declarations.{decl_nodes};
 ghost use Rattle.type_terms.specs.Environments.{IsProperDecl, decl_of};
 ghost use Rattle.decl_spelling.specs.Sections.{HoldsBytes, window};
 ghost use Rattle.decl_spelling.specs.Reading.{start};
-ghost use Rattle.decl_spelling.specs.Declarations.{head_at, resolved, after_head, read_at, decl_at, FirstFault};
+ghost use Rattle.decl_spelling.specs.Declarations.{head_at, resolved, after_head, decl_at, FirstFault};
 ghost use Rattle.decl_spelling.specs.Spelling.{SpellsDecl};
 ghost use Rattle.decl_reader.specs.Calls.{sections_of, ahead_of};
 ghost use Rattle.decl_reader.specs.Forms.{head_shape};
@@ -32,13 +32,14 @@ use steps::Steps;
 use type_terms::{Arena, DeclNode};
 use wire_bytes::ReadFault;
 
-/// Reads the declaration at an offset of the data section of a full file or a bundle, or answers the first fault in reading order.
-/// A declaration is read from left to right; a descriptor is read where it is first named, once, and stands wholly before the block
-/// that names it. docs/FORMAT.md has the rules, "Declarations". The nodes of its types are added to the arena, also where a fault is
-/// met behind them. `Nodes` comes only where the arena is full. What is read keeps the rules of declarations of environments.
+/// Reads the declaration at an offset of the data section of a full file or a bundle, or answers the first fault in
+/// reading order. A declaration is read from left to right; a descriptor is read where it is first named, once, and
+/// stands wholly before the block that names it. docs/FORMAT.md has the rules, "Declarations". The nodes of its types
+/// are added to the arena, also where a fault is met behind them. `Nodes` comes only where the arena is full. What is
+/// read keeps the rules of declarations of environments.
 ///
-/// One step is one byte of the data section read: those of each descriptor that it reaches, once, and its own. It takes time near
-/// linear in them, and memory by the descriptors.
+/// One step is one byte of the data section read: those of each descriptor that it reaches, once, and its own. It takes
+/// time near linear in them, and memory by the descriptors.
 pub fn read_decl<B: Basics, L: Ledger>(
     alloc: Global,
     parts: &Parts<'_>,
@@ -49,11 +50,12 @@ pub fn read_decl<B: Basics, L: Ledger>(
 ) -> Result<DeclNode, DeclFault>
     requires of_file { IsOfFile parts.now }
     requires inside { offset < parts.now.body_len }
-    ensures found { IfOk result (λ node. SpellsDecl (sections_of parts.now) (B.meaning basics.now) offset (decl_of arena.new.nodes node)) }
+    ensures found { IfOk result
+        (λ node. SpellsDecl (sections_of parts.now) (B.meaning basics.now) offset (decl_of arena.new.nodes node)) }
     ensures fault { IfFault result (FirstFault (sections_of parts.now) (B.meaning basics.now) offset) }
     ensures proper { IfOk result (λ node. IsProperDecl (decl_of arena.new.nodes node)) }
     ensures exact { ReadsDecl result arena.new.nodes (decl_at (sections_of parts.now) (B.meaning basics.now) offset) }
-    ensures counted { CountsReached (sections_of parts.now) offset result (read_at (sections_of parts.now) (B.meaning basics.now) offset) steps.old steps.new }
+    ensures counted { CountsReached (sections_of parts.now) (B.meaning basics.now) offset result steps.old steps.new }
     ensures at_most { steps.new ≤ steps.old + parts.now.body_len }
     ensures within { IfOk result (λ node. AllBelow (length arena.new.nodes) (decl_nodes node)) }
     ensures extends { Extends arena.old arena.new }
@@ -84,8 +86,9 @@ impl<L: Ledger> Reading<'_, L> {
         requires inside { offset < parts.now.body_len }
         requires block { ahead_of block.old ≡ start (window (sections_of parts.now) offset parts.now.body_len) }
         requires empty { self.old.table.now ≡ [] }
-        ensures exact { ReadsDecl result self.new.arena.now.nodes (decl_at (sections_of parts.now) (B.meaning basics.now) offset) }
-        ensures counted { CountsReached (sections_of parts.now) offset result (read_at (sections_of parts.now) (B.meaning basics.now) offset)
+        ensures exact { ReadsDecl result self.new.arena.now.nodes
+            (decl_at (sections_of parts.now) (B.meaning basics.now) offset) }
+        ensures counted { CountsReached (sections_of parts.now) (B.meaning basics.now) offset result
             self.old.steps.now self.new.steps.now }
         ensures at_most { self.new.steps.now ≤ self.old.steps.now + parts.now.body_len }
         ensures within { IfOk result (λ node. AllBelow (length self.new.arena.now.nodes) (decl_nodes node)) }
@@ -108,7 +111,9 @@ impl<L: Ledger> Reading<'_, L> {
         requires of_file { IsOfFile parts.now }
         requires ready { IsReadyFor parts.now self.old }
         requires within { offset ≤ parts.now.body_len }
-        ensures exact { IsPart head_shape result (ahead_of block.new) (known self.new) (resolved (sections_of parts.now) offset (head_at (sections_of parts.now) (ahead_of block.old)) (known self.old)) }
+        ensures exact { IsPart head_shape result (ahead_of block.new) (known self.new)
+            (resolved (sections_of parts.now) offset (head_at (sections_of parts.now) (ahead_of block.old))
+            (known self.old)) }
         ensures goes_on { GoesOn parts.now self.old result self.new }
     {
         match read_declaration_head(self.alloc, parts, block) {
@@ -137,7 +142,9 @@ impl<L: Ledger> Reading<'_, L> {
         requires of_file { IsOfFile parts.now }
         requires ready { IsReadyFor parts.now self.old }
         requires within { offset ≤ parts.now.body_len }
-        ensures exact { IsWhole result (ahead_of block.new) (known self.new) (after_head (sections_of parts.now) (B.meaning basics.now) offset (head_shape head) (ahead_of block.old) (known self.old)) }
+        ensures exact { IsWhole result (ahead_of block.new) (known self.new)
+            (after_head (sections_of parts.now) (B.meaning basics.now) offset (head_shape head) (ahead_of block.old)
+            (known self.old)) }
         ensures goes_on { GoesOn parts.now self.old result self.new }
     {
         match head {

@@ -1,5 +1,5 @@
-//! Reading the types that a block names. The descriptors that are open stand on a list, not on the call stack, so a chain of any
-//! length is read.
+//! Reading the types that a block names. The descriptors that are open stand on a list, not on the call stack, so a
+//! chain of any length is read.
 
 ghost use Rattle.std.specs.Prelude.{◌≡◌, ◌+◌, ◌-◌, ◌<◌, ◌≤◌, List, [], Err, None, length, IfOk, OnOk};
 ghost use Rattle.type_terms.specs.declared.descriptors.Node.{Node};
@@ -7,13 +7,14 @@ ghost use Rattle.type_terms.specs.Denotation.{tree};
 ghost use Rattle.file_parts.specs.FileParts.{IsOfFile, body_of};
 ghost use Rattle.decl_spelling.specs.Tables.{at};
 ghost use Rattle.decl_spelling.specs.Codes.{basic_of};
-ghost use Rattle.decl_spelling.specs.Descent.{resolve, resolve_all, named_at as renamed};
+ghost use Rattle.decl_spelling.specs.Descent.{named_at as renamed};
 ghost use Rattle.decl_reader.specs.Calls.{sections_of};
 ghost use Rattle.decl_reader.specs.Blocks.{table_of, finished_of, HasRoom};
 ghost use Rattle.decl_reader.specs.Meant.{IsGenericFlat};
 ghost use Rattle.decl_reader.specs.Shapes.{flat_shape};
 ghost use Rattle.decl_reader.specs.Frames.{answered, closed, with_shape};
-ghost use Rattle.decl_reader.specs.Opens.{reads, frame_of, IsOpen, IsBegun, IsClosed, IsFinished, Resolves, Begins, resumed};
+ghost use Rattle.decl_reader.specs.Opens.{resolve_type, resolve_types, frame_of, IsOpen, IsBegun, IsClosed, IsFinished};
+ghost use Rattle.decl_reader.specs.Opens.{Resolves, Begins, resumed};
 ghost use Rattle.decl_reader.specs.Opens.{checked_basic, checked_type, checked_finished};
 ghost use Rattle.decl_reader.specs.Progress.{known, IsReadyFor, GoesOn};
 
@@ -25,7 +26,8 @@ use crate::flat::{Flat, read_flat};
 use crate::nodes::add_flat;
 use crate::reading::Reading;
 use crate::table::Finished;
-use decl_spelling::Mention;
+use crate::type_off::TypeOff;
+use decl_spelling::{FIRST_DESCRIPTOR, Mention};
 use file_parts::Parts;
 use std::alloc::AllocError;
 use std::sync::ledger::Ledger;
@@ -56,7 +58,8 @@ impl<L: Ledger> Reading<'_, L> {
         requires sections { IsOfFile parts.now }
         requires ready { IsReadyFor parts.now self.old }
         requires within { holder ≤ parts.now.body_len }
-        ensures exact { Resolves result (known self.new) (resolve_all (sections_of parts.now) (reads (sections_of parts.now)) holder mentions.now (known self.old)) }
+        ensures exact { Resolves result (known self.new)
+            (resolve_types (sections_of parts.now) holder mentions.now (known self.old)) }
         ensures goes_on { GoesOn parts.now self.old result self.new }
     {
         for mention in mentions {
@@ -70,7 +73,8 @@ impl<L: Ledger> Reading<'_, L> {
         requires sections { IsOfFile parts.now }
         requires ready { IsReadyFor parts.now self.old }
         requires within { holder ≤ parts.now.body_len }
-        ensures exact { Resolves result (known self.new) (resolve (sections_of parts.now) (reads (sections_of parts.now)) holder named (known self.old)) }
+        ensures exact { Resolves result (known self.new)
+            (resolve_type (sections_of parts.now) holder named (known self.old)) }
         ensures goes_on { GoesOn parts.now self.old result self.new }
     {
         match self.begin(parts, holder, named)? {
@@ -124,34 +128,56 @@ impl<L: Ledger> Reading<'_, L> {
         requires within { holder ≤ parts.now.body_len }
         ensures { Begins (sections_of parts.now) (known self.now) self.now.table.now holder named result }
     {
-        if named.value < 32 {
-            check_basic(parts.version, named)?;
-            return Ok(None);
+        match TypeOff::new(named.value) {
+            TypeOff::Basic(_) => {
+                check_basic(parts.version, named)?;
+                Ok(None)
+            }
+            TypeOff::At(start) if start < holder => self.begin_at(parts, holder, named, start),
+            TypeOff::At(_) => Err(ReadFault::Bytes(out_of_range(named))),
         }
-        let start = named.value - 32;
-        if start >= holder {
-            return Err(ReadFault::Bytes(out_of_range(named)));
-        }
+    }
+
+    /// The same of a mention that names a descriptor before its holder.
+    fn begin_at(
+        &self,
+        parts: &Parts<'_>,
+        holder: u64,
+        named: Mention,
+        start: u64,
+    ) -> Result<Option<Open>, ReadFault>
+        requires sections { IsOfFile parts.now }
+        requires ready { IsReadyFor parts.now self.now }
+        requires its_start { named.value ≡ FIRST_DESCRIPTOR + start }
+        requires before { start < holder }
+        requires within { holder ≤ parts.now.body_len }
+        ensures { Begins (sections_of parts.now) (known self.now) self.now.table.now holder named result }
+    {
         match self.table.at(start) {
             Some(finished) => {
                 check_finished(holder, named, finished, self.arena)?;
                 Ok(None)
             }
-            None => Ok(Some(self.open_at(parts, holder, named)?)),
+            None => Ok(Some(self.open_at(parts, holder, named, start)?)),
         }
     }
 
     /// Reads the descriptor's own bytes, up to its holder or to a descriptor that was read before.
-    fn open_at(&self, parts: &Parts<'_>, holder: u64, named: Mention) -> Result<Open, AllocError>
+    fn open_at(
+        &self,
+        parts: &Parts<'_>,
+        holder: u64,
+        named: Mention,
+        start: u64,
+    ) -> Result<Open, AllocError>
         requires sections { IsOfFile parts.now }
         requires ready { IsReadyFor parts.now self.now }
-        requires large { 32 ≤ named.value }
-        requires before { named.value - 32 < holder }
+        requires its_start { named.value ≡ FIRST_DESCRIPTOR + start }
+        requires before { start < holder }
         requires within { holder ≤ parts.now.body_len }
-        requires new { at (known self.now) (named.value - 32) ≡ None }
+        requires new { at (known self.now) start ≡ None }
         ensures { IfOk result (IsBegun (sections_of parts.now) (known self.now) self.now.table.now holder named) }
     {
-        let start = named.value - 32;
         let mut block = Block::new(self.alloc, parts, start, self.table.free_to(start, holder));
         let own = match read_flat(self.alloc, parts, &mut block) {
             Ok(flat) => Ok((flat, block.cursor.place() as u64 - parts.body_at)),
@@ -173,7 +199,9 @@ impl<L: Ledger> Reading<'_, L> {
         requires is_open { IsOpen (sections_of parts.now) (known self.old) self.old.table.now block }
         requires all { block.known ≡ length block.mentions.items }
         ensures exact { Resolves result (known self.new) (closed parts.now.version (frame_of block) (known self.old)) }
-        ensures closed { OnOk result (IsClosed (sections_of parts.now) (known self.old) (known self.new) self.old.table.now self.new.table.now block) }
+        ensures closed { OnOk result
+            (IsClosed (sections_of parts.now) (known self.old) (known self.new) self.old.table.now self.new.table.now
+            block) }
         ensures goes_on { GoesOn parts.now self.old result self.new }
     {
         let Open {
@@ -188,7 +216,8 @@ impl<L: Ledger> Reading<'_, L> {
         }
     }
 
-    /// What a descriptor spells joins the finished ones, and is what its holder asks for. One step is one byte that was read.
+    /// What a descriptor spells joins the finished ones, and is what its holder asks for. One step is one byte that was
+    /// read.
     fn finish(
         &mut self,
         parts: &Parts<'_>,
@@ -199,12 +228,16 @@ impl<L: Ledger> Reading<'_, L> {
     ) -> Result<(), DeclFault>
         requires ready { IsReadyFor parts.now self.old }
         requires generic { IsGenericFlat parts.now.version (known self.old) (flat_shape flat) }
-        requires its_start { named.value ≡ 32 + start }
+        requires its_start { named.value ≡ FIRST_DESCRIPTOR + start }
         requires some { start < end }
         requires inside { end ≤ length (body_of parts.now) }
         requires room { HasRoom start end self.old.table.now }
-        ensures exact { Resolves result (known self.new) (answered parts.now.version named (with_shape parts.now.version start (flat_shape flat, end) (known self.old))) }
-        ensures finished { OnOk result (IsFinished (sections_of parts.now) (known self.old) (known self.new) self.old.table.now self.new.table.now named end) }
+        ensures exact { Resolves result (known self.new)
+            (answered parts.now.version named
+            (with_shape parts.now.version start (flat_shape flat, end) (known self.old))) }
+        ensures finished { OnOk result
+            (IsFinished (sections_of parts.now) (known self.old) (known self.new) self.old.table.now self.new.table.now
+            named end) }
         ensures goes_on { GoesOn parts.now self.old result self.new }
     {
         let node = add_flat(self.alloc, parts.version, flat, self.table, self.arena)?;

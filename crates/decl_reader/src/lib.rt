@@ -15,6 +15,7 @@ mod heads;
 mod nodes;
 mod reading;
 mod table;
+mod type_off;
 
 pub use basics::Basics;
 pub use declaration::read_decl;

@@ -6,8 +6,8 @@ use std::sync::ledger::Ledger;
 use steps::Steps;
 use type_terms::Arena;
 
-/// What the reading of one declaration has so far: the descriptors that were read whole, the nodes of their types, and the
-/// count of the bytes that were read.
+/// What the reading of one declaration has so far: the descriptors that were read whole, the nodes of their types, and
+/// the count of the bytes that were read.
 #[derive(Drop)]
 pub(crate) struct Reading<'a, L: Ledger> {
     pub(crate) alloc: Global,

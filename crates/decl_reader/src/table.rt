@@ -3,7 +3,8 @@
 ghost use Rattle.std.specs.Prelude.{◌≡◌, ◌<◌, List, [], ℕ, OnOk, OnErr, IfSome, option_map};
 ghost use Rattle.type_terms.specs.declared.descriptors.Node.{Node};
 ghost use Rattle.decl_spelling.specs.Tables.{at, free_to};
-ghost use Rattle.decl_reader.specs.Blocks.{table_of, finished_of, with_entry, AllInside, IsStacked, HasRoom, up_to, from, Covers, StartsFirst};
+ghost use Rattle.decl_reader.specs.Blocks.{table_of, finished_of, with_entry, AllInside, IsStacked, HasRoom, up_to};
+ghost use Rattle.decl_reader.specs.Blocks.{from, Covers, StartsFirst};
 
 use std::alloc::{AllocError, Global};
 use std::collections::BTreeMap;
@@ -17,7 +18,8 @@ pub(crate) struct Finished {
     pub(crate) node: NodeId,
 }
 
-/// The finished descriptors by their offsets. Contracts see them as a list, in the order of their places. No two share a byte.
+/// The finished descriptors by their offsets. Contracts see them as a list, in the order of their places. No two share
+/// a byte.
 #[derive(Drop)]
 pub(crate) struct Table {
     blocks: BTreeMap<u64, Finished>,
@@ -46,7 +48,8 @@ impl Table {
 
     /// What is finished at the offset.
     pub(crate) fn at(&self, offset: u64) -> Option<Finished>
-        ensures found { (nodes : List Node) → option_map (finished_of nodes) result ≡ at (table_of nodes self.now) offset }
+        ensures found { (nodes : List Node)
+            → option_map (finished_of nodes) result ≡ at (table_of nodes self.now) offset }
         ensures inside { (size : ℕ) → AllInside size self.now → IfSome result (λ finished. finished.node < size) }
     {
         self.blocks.get(&offset).copied()

@@ -1,6 +1,7 @@
 //! The parts of a file, as its readers take them.
 
-ghost use Rattle.std.specs.Prelude.{◌≡◌, ◌+◌, ◌-◌, ◌<◌, ◌≤◌, ◌&&◌, ◌||◌, nat_eq, get_or, take, drop, List, [], ℕ, length};
+ghost use Rattle.std.specs.Prelude.{◌≡◌, ◌+◌, ◌-◌, ◌<◌, ◌≤◌, ◌&&◌, ◌||◌, nat_eq, get_or, take, drop, List, [], ℕ};
+ghost use Rattle.std.specs.Prelude.{length};
 ghost use Rattle.std.specs.Prelude.{IfSome, IfNone};
 ghost use Rattle.std.specs.Cmp.Lexicographic.{pointwise};
 ghost use Rattle.std.specs.Option.{option_copied};
@@ -74,14 +75,17 @@ impl<'a> Parts<'a> {
         cursor_in(self.file, at + from as usize, at + to as usize)
     }
 
-    /// The package path for which the text at an offset of the string section stands. The empty text stands for the file's
-    /// own path, where the index has the empty text; any other for itself, where it is a path of the index. The path is
-    /// found by halves, and no memory is taken.
+    /// The package path for which the text at an offset of the string section stands. The empty text stands for the
+    /// file's own path, where the index has the empty text; any other for itself, where it is a path of the index. The
+    /// path is found by halves, and no memory is taken.
     pub fn path_at(&self, offset: u64) -> Option<&'a [u8]>
         requires { IsOfFile self.now }
-        ensures found { IfSome result (λ path. IsPathAt (strings_of self.now) self.now.own.now (paths_of self.now) offset path.now) }
-        ensures none { IfNone result ((path : List ℕ) → IsPathAt (strings_of self.now) self.now.own.now (paths_of self.now) offset path → ⊥) }
-        ensures exact { option_copied result ≡ path_in (strings_of self.now) self.now.own.now (paths_of self.now) offset }
+        ensures found { IfSome result
+            (λ path. IsPathAt (strings_of self.now) self.now.own.now (paths_of self.now) offset path.now) }
+        ensures none { IfNone result ((path : List ℕ)
+            → IsPathAt (strings_of self.now) self.now.own.now (paths_of self.now) offset path → ⊥) }
+        ensures exact { option_copied result ≡ path_in (strings_of self.now) self.now.own.now (paths_of self.now)
+            offset }
     {
         path_at(self.strings(), self.own, self.paths, offset)
     }
@@ -105,8 +109,10 @@ fn path_at<'a>(
 ) -> Option<&'a [u8]>
     requires inside { AllByRecursion (λ s. IsInside strings.now s) paths.now }
     requires rising { Rise (texts_of strings.now paths.now) }
-    ensures found { IfSome result (λ path. IsPathAt strings.now own.now (texts_of strings.now paths.now) offset path.now) }
-    ensures none { IfNone result ((path : List ℕ) → IsPathAt strings.now own.now (texts_of strings.now paths.now) offset path → ⊥) }
+    ensures found { IfSome result
+        (λ path. IsPathAt strings.now own.now (texts_of strings.now paths.now) offset path.now) }
+    ensures none { IfNone result ((path : List ℕ)
+        → IsPathAt strings.now own.now (texts_of strings.now paths.now) offset path → ⊥) }
     ensures exact { option_copied result ≡ path_in strings.now own.now (texts_of strings.now paths.now) offset }
 {
     path_for(strings, own, paths, text_at(strings, offset)?)
@@ -133,7 +139,8 @@ fn path_for<'a>(
 fn is_path(strings: &[u8], own: &[u8], paths: &[TextSpan], text: &[u8]) -> bool
     requires inside { AllByRecursion (λ s. IsInside strings.now s) paths.now }
     requires rising { Rise (texts_of strings.now paths.now) }
-    ensures { result ≡ (is_among (texts_of strings.now paths.now) text.now || (pointwise nat_eq text.now own.now && is_among (texts_of strings.now paths.now) [])) }
+    ensures { result ≡ (is_among (texts_of strings.now paths.now) text.now
+        || (pointwise nat_eq text.now own.now && is_among (texts_of strings.now paths.now) [])) }
 {
     is_listed(strings, paths, text) || text == own && is_listed(strings, paths, &[])
 }

@@ -26,15 +26,17 @@ impl Titled for TextSpan {
     }
 }
 
-/// Which of the records, whose titles rise, has this title. It compares with as many as the number of records has bits, and
-/// takes no memory.
+/// Which of the records, whose titles rise, has this title. It compares with as many as the number of records has bits,
+/// and takes no memory.
 pub fn find_titled<T: Titled>(strings: &[u8], records: &[T], wanted: &[u8]) -> Option<usize>
     requires small { length records.now < 2 ^ 63 }
     requires inside { AllByRecursion (λ r. IsInside strings.now (T.title r)) records.now }
     requires rising { Rise (map (λ r. text_of strings.now (T.title r)) records.now) }
     ensures within { IfSome result (λ i. i < length records.now) }
-    ensures found { IfSome result (λ i. slice_get (map (λ r. text_of strings.now (T.title r)) records.now) i ≡ Some wanted.now) }
-    ensures none { IfNone result ((i : ℕ) → slice_get (map (λ r. text_of strings.now (T.title r)) records.now) i ≡ Some wanted.now → ⊥) }
+    ensures found { IfSome result
+        (λ i. slice_get (map (λ r. text_of strings.now (T.title r)) records.now) i ≡ Some wanted.now) }
+    ensures none { IfNone result ((i : ℕ)
+        → slice_get (map (λ r. text_of strings.now (T.title r)) records.now) i ≡ Some wanted.now → ⊥) }
 {
     let mut low = 0;
     let mut high = records.len();

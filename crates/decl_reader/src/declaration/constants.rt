@@ -20,6 +20,7 @@ use crate::codes::basic_named;
 use crate::flat::{Kind, kind_of, read_value};
 use crate::reading::Reading;
 use crate::table::Table;
+use crate::type_off::TypeOff;
 use code_tables::Basic;
 use file_parts::Parts;
 use go_values::{Const, QName};
@@ -40,7 +41,10 @@ impl<L: Ledger> Reading<'_, L> {
     ) -> Result<Const, ReadFault>
         requires of_file { IsOfFile parts.now }
         requires ready { IsReadyFor parts.now self.now }
-        ensures { IsValue result (ahead_of block.new) (value_by (sections_of parts.now) at (basic_type (B.meaning basics.now) (type_named parts.now.version (known self.now) ty)) (ahead_of block.old)) }
+        ensures { IsValue result (ahead_of block.new)
+            (value_by (sections_of parts.now) at
+            (basic_type (B.meaning basics.now) (type_named parts.now.version (known self.now) ty))
+            (ahead_of block.old)) }
     {
         match basic_type(parts.version, ty, basics, self.table, self.arena) {
             Some(basic) => read_value_of(self.alloc, parts, basic, at, block),
@@ -58,7 +62,8 @@ fn read_value_of(
     block: &mut Block<'_>,
 ) -> Result<Const, ReadFault>
     requires of_file { IsOfFile parts.now }
-    ensures { IsValue result (ahead_of block.new) (value_by (sections_of parts.now) at (Some basic) (ahead_of block.old)) }
+    ensures { IsValue result (ahead_of block.new)
+        (value_by (sections_of parts.now) at (Some basic) (ahead_of block.old)) }
 {
     match kind_of(basic) {
         Kind::Spelled(spelling) => read_value(alloc, parts, spelling, block),
@@ -78,19 +83,20 @@ fn basic_type<B: Basics>(
     requires inside { AllInside (length arena.now.nodes) table.now }
     ensures { result ≡ basic_type (B.meaning basics.now) (type_named version (table_of arena.now.nodes table.now) ty) }
 {
-    if ty < 32 {
-        return Some(basic_named(version, ty));
-    }
-    match table.at(ty - 32) {
-        Some(finished) => node_basic(arena.node(finished.node), basics, arena),
-        None => Some(Basic::Bool),
+    match TypeOff::new(ty) {
+        TypeOff::Basic(code) => Some(basic_named(version, code)),
+        TypeOff::At(offset) => match table.at(offset) {
+            Some(finished) => node_basic(arena.node(finished.node), basics, arena),
+            None => Some(Basic::Bool),
+        },
     }
 }
 
 /// The same of the type of a node.
 fn node_basic<B: Basics>(node: &Node, basics: &B, arena: &Arena) -> Option<Basic>
     requires inside { AllBelow (length arena.now.nodes) (children node.now) }
-    ensures { result ≡ basic_type (B.meaning basics.now) (tree_of (retype (tree arena.now.nodes) (node_shape node.now))) }
+    ensures { result ≡ basic_type (B.meaning basics.now)
+        (tree_of (retype (tree arena.now.nodes) (node_shape node.now))) }
 {
     match node {
         Node::Predeclared(basic) => Some(*basic),
@@ -101,7 +107,8 @@ fn node_basic<B: Basics>(node: &Node, basics: &B, arena: &Arena) -> Option<Basic
 
 /// The predeclared type to which a defined type or an alias comes down by its name.
 fn generic_basic<B: Basics>(node: &Node, basics: &B) -> Option<Basic>
-    ensures { (types : ℕ → Tree) → result ≡ generic_basic (B.meaning basics.now) (tree_of (retype types (node_shape node.now))) }
+    ensures { (types : ℕ → Tree)
+        → result ≡ generic_basic (B.meaning basics.now) (tree_of (retype types (node_shape node.now))) }
 {
     match node {
         Node::Named(q) | Node::AliasName(q) => basic_of_name(q, basics),

@@ -20,6 +20,7 @@ use crate::fault::DeclFault;
 use crate::flat::{ReceiverParts, read_receivers};
 use crate::reading::Reading;
 use crate::table::Table;
+use crate::type_off::TypeOff;
 use code_tables::Basic;
 use file_parts::Parts;
 use std::sync::ledger::Ledger;
@@ -38,7 +39,9 @@ impl<L: Ledger> Reading<'_, L> {
         requires of_file { IsOfFile parts.now }
         requires ready { IsReadyFor parts.now self.old }
         requires within { offset ≤ parts.now.body_len }
-        ensures exact { IsPart (λ v. map receiver_shape v.items) result (ahead_of block.new) (known self.new) (methods_by (sections_of parts.now) offset (ahead_of block.old) (known self.old) (has_methods (type_named parts.now.version (known self.old) underlying))) }
+        ensures exact { IsPart (λ v. map receiver_shape v.items) result (ahead_of block.new) (known self.new)
+            (methods_by (sections_of parts.now) offset (ahead_of block.old) (known self.old)
+            (has_methods (type_named parts.now.version (known self.old) underlying))) }
         ensures goes_on { GoesOn parts.now self.old result self.new }
     {
         if has_methods(parts.version, underlying, self.table, self.arena) {
@@ -58,7 +61,9 @@ impl<L: Ledger> Reading<'_, L> {
         requires of_file { IsOfFile parts.now }
         requires ready { IsReadyFor parts.now self.old }
         requires within { offset ≤ parts.now.body_len }
-        ensures exact { IsPart (λ v. map receiver_shape v.items) result (ahead_of block.new) (known self.new) (resolved (sections_of parts.now) offset (list_at (receiver_at (sections_of parts.now)) (ahead_of block.old)) (known self.old)) }
+        ensures exact { IsPart (λ v. map receiver_shape v.items) result (ahead_of block.new) (known self.new)
+            (resolved (sections_of parts.now) offset
+            (list_at (receiver_at (sections_of parts.now)) (ahead_of block.old)) (known self.old)) }
         ensures goes_on { GoesOn parts.now self.old result self.new }
     {
         match read_receivers(self.alloc, parts, block) {
@@ -81,12 +86,12 @@ fn has_methods(version: u8, underlying: u64, table: &Table, arena: &Arena) -> bo
     requires inside { AllInside (length arena.now.nodes) table.now }
     ensures { result ≡ has_methods (type_named version (table_of arena.now.nodes table.now) underlying) }
 {
-    if underlying < 32 {
-        return basic_named(version, underlying) != Basic::Any;
-    }
-    match table.at(underlying - 32) {
-        Some(finished) => node_has_methods(arena.node(finished.node)),
-        None => true,
+    match TypeOff::new(underlying) {
+        TypeOff::Basic(code) => basic_named(version, code) != Basic::Any,
+        TypeOff::At(offset) => match table.at(offset) {
+            Some(finished) => node_has_methods(arena.node(finished.node)),
+            None => true,
+        },
     }
 }
 

@@ -2,11 +2,10 @@
 
 ghost use Rattle.std.specs.Prelude.{◌≡◌, ◌≤◌, OnOk};
 ghost use Rattle.file_parts.specs.FileParts.{IsOfFile};
-ghost use Rattle.decl_spelling.specs.Descent.{block_at, resolve_all};
 ghost use Rattle.decl_reader.specs.Calls.{sections_of, ahead_of};
 ghost use Rattle.decl_reader.specs.Opens.{Resolves};
 ghost use Rattle.decl_reader.specs.Progress.{known, IsReadyFor, GoesOn};
-ghost use Rattle.decl_reader.specs.Wholes.{all_known};
+ghost use Rattle.decl_reader.specs.Wholes.{all_known, types_before};
 
 use crate::block::Block;
 use crate::fault::DeclFault;
@@ -25,7 +24,8 @@ impl<L: Ledger> Reading<'_, L> {
         requires of_file { IsOfFile parts.now }
         requires ready { IsReadyFor parts.now self.old }
         requires within { offset ≤ parts.now.body_len }
-        ensures exact { Resolves result (known self.new) (resolve_all (sections_of parts.now) (block_at (sections_of parts.now) offset) offset block.old.mentions.items (known self.old)) }
+        ensures exact { Resolves result (known self.new)
+            (types_before (sections_of parts.now) offset block.old.mentions.items (known self.old)) }
         ensures known { OnOk result (ahead_of block.new ≡ all_known (ahead_of block.old)) }
         ensures goes_on { GoesOn parts.now self.old result self.new }
     {

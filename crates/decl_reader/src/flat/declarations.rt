@@ -3,8 +3,10 @@
 ghost use Rattle.std.specs.Prelude.{◌≡◌, map};
 ghost use Rattle.file_parts.specs.FileParts.{IsOfFile};
 ghost use Rattle.decl_spelling.specs.Reading.{list_at};
-ghost use Rattle.decl_spelling.specs.Declarations.{var_at, func_decl_at, generic_func_at, constant_at, defined_at, generic_defined_at, alias_at, generic_alias_at, parameter_at, constraint_demand, head_by, head_at, receiver_at};
-ghost use Rattle.decl_reader.specs.Calls.{ReadsBlock, ahead_of, sections_of};
+ghost use Rattle.decl_spelling.specs.Declarations.{var_at, func_decl_at, generic_func_at, constant_at, defined_at};
+ghost use Rattle.decl_spelling.specs.Declarations.{generic_defined_at, alias_at, generic_alias_at, parameter_at};
+ghost use Rattle.decl_spelling.specs.Declarations.{constraint_demand, head_by, head_at, receiver_at};
+ghost use Rattle.decl_reader.specs.Calls.{ReadsBlock, sections_of};
 ghost use Rattle.decl_reader.specs.Forms.{head_shape, receiver_shape};
 
 use crate::block::{Block, read_pos, read_text, read_truth, read_type};
@@ -90,7 +92,7 @@ pub(crate) fn read_declaration_head(
     block: &mut Block<'_>,
 ) -> Result<DeclHead, ReadFault>
     requires { IsOfFile parts.now }
-    ensures { ReadsBlock head_shape result (ahead_of block.new) (head_at (sections_of parts.now) (ahead_of block.old)) }
+    ensures { ReadsBlock head_shape (head_at (sections_of parts.now)) block.old result block.new }
 {
     let at = block.cursor.place() as u64;
     let letter = block.cursor.byte()?;
@@ -111,7 +113,7 @@ fn read_parts(
     block: &mut Block<'_>,
 ) -> Result<DeclHead, ReadFault>
     requires { IsOfFile parts.now }
-    ensures { ReadsBlock head_shape result (ahead_of block.new) (head_by (sections_of parts.now) tag (ahead_of block.old)) }
+    ensures { ReadsBlock head_shape (head_by (sections_of parts.now) tag) block.old result block.new }
 {
     match tag {
         DeclTag::Var => read_var(alloc, parts, block),
@@ -129,7 +131,7 @@ fn read_parts(
 #[tactic(auto, unfolding(decl_spelling::specs::Declarations::var_at))]
 fn read_var(alloc: Global, parts: &Parts<'_>, block: &mut Block<'_>) -> Result<DeclHead, ReadFault>
     requires { IsOfFile parts.now }
-    ensures { ReadsBlock head_shape result (ahead_of block.new) (var_at (sections_of parts.now) (ahead_of block.old)) }
+    ensures { ReadsBlock head_shape (var_at (sections_of parts.now)) block.old result block.new }
 {
     let pos = read_pos(alloc, parts, block)?;
     let ty = read_type(block, Demand::Any)?;
@@ -139,7 +141,7 @@ fn read_var(alloc: Global, parts: &Parts<'_>, block: &mut Block<'_>) -> Result<D
 #[tactic(auto, unfolding(decl_spelling::specs::Declarations::func_decl_at))]
 fn read_func(alloc: Global, parts: &Parts<'_>, block: &mut Block<'_>) -> Result<DeclHead, ReadFault>
     requires { IsOfFile parts.now }
-    ensures { ReadsBlock head_shape result (ahead_of block.new) (func_decl_at (sections_of parts.now) (ahead_of block.old)) }
+    ensures { ReadsBlock head_shape (func_decl_at (sections_of parts.now)) block.old result block.new }
 {
     let pos = read_pos(alloc, parts, block)?;
     let signature = read_signature(alloc, parts, block)?;
@@ -157,7 +159,7 @@ fn read_generic_func(
     block: &mut Block<'_>,
 ) -> Result<DeclHead, ReadFault>
     requires { IsOfFile parts.now }
-    ensures { ReadsBlock head_shape result (ahead_of block.new) (generic_func_at (sections_of parts.now) (ahead_of block.old)) }
+    ensures { ReadsBlock head_shape (generic_func_at (sections_of parts.now)) block.old result block.new }
 {
     let pos = read_pos(alloc, parts, block)?;
     let tparams = read_types(alloc, Demand::Parameter, block)?;
@@ -176,7 +178,7 @@ fn read_constant(
     block: &mut Block<'_>,
 ) -> Result<DeclHead, ReadFault>
     requires { IsOfFile parts.now }
-    ensures { ReadsBlock head_shape result (ahead_of block.new) (constant_at (sections_of parts.now) (ahead_of block.old)) }
+    ensures { ReadsBlock head_shape (constant_at (sections_of parts.now)) block.old result block.new }
 {
     let pos = read_pos(alloc, parts, block)?;
     let at = block.cursor.place() as u64;
@@ -191,7 +193,7 @@ fn read_defined(
     block: &mut Block<'_>,
 ) -> Result<DeclHead, ReadFault>
     requires { IsOfFile parts.now }
-    ensures { ReadsBlock head_shape result (ahead_of block.new) (defined_at (sections_of parts.now) (ahead_of block.old)) }
+    ensures { ReadsBlock head_shape (defined_at (sections_of parts.now)) block.old result block.new }
 {
     let pos = read_pos(alloc, parts, block)?;
     let underlying = read_type(block, Demand::Underlying)?;
@@ -209,7 +211,7 @@ fn read_generic_defined(
     block: &mut Block<'_>,
 ) -> Result<DeclHead, ReadFault>
     requires { IsOfFile parts.now }
-    ensures { ReadsBlock head_shape result (ahead_of block.new) (generic_defined_at (sections_of parts.now) (ahead_of block.old)) }
+    ensures { ReadsBlock head_shape (generic_defined_at (sections_of parts.now)) block.old result block.new }
 {
     let pos = read_pos(alloc, parts, block)?;
     let tparams = read_types(alloc, Demand::Parameter, block)?;
@@ -228,7 +230,7 @@ fn read_alias(
     block: &mut Block<'_>,
 ) -> Result<DeclHead, ReadFault>
     requires { IsOfFile parts.now }
-    ensures { ReadsBlock head_shape result (ahead_of block.new) (alias_at (sections_of parts.now) (ahead_of block.old)) }
+    ensures { ReadsBlock head_shape (alias_at (sections_of parts.now)) block.old result block.new }
 {
     let pos = read_pos(alloc, parts, block)?;
     let ty = read_type(block, Demand::Any)?;
@@ -246,7 +248,7 @@ fn read_generic_alias(
     block: &mut Block<'_>,
 ) -> Result<DeclHead, ReadFault>
     requires { IsOfFile parts.now }
-    ensures { ReadsBlock head_shape result (ahead_of block.new) (generic_alias_at (sections_of parts.now) (ahead_of block.old)) }
+    ensures { ReadsBlock head_shape (generic_alias_at (sections_of parts.now)) block.old result block.new }
 {
     let pos = read_pos(alloc, parts, block)?;
     let tparams = read_types(alloc, Demand::Parameter, block)?;
@@ -262,7 +264,7 @@ fn read_type_parameter(
     block: &mut Block<'_>,
 ) -> Result<DeclHead, ReadFault>
     requires { IsOfFile parts.now }
-    ensures { ReadsBlock head_shape result (ahead_of block.new) (parameter_at (sections_of parts.now) (ahead_of block.old)) }
+    ensures { ReadsBlock head_shape (parameter_at (sections_of parts.now)) block.old result block.new }
 {
     let pos = read_pos(alloc, parts, block)?;
     let flag = block.cursor.place() as u64;
@@ -321,7 +323,8 @@ pub(crate) fn read_receivers(
     block: &mut Block<'_>,
 ) -> Result<Vec<ReceiverParts>, ReadFault>
     requires { IsOfFile parts.now }
-    ensures { ReadsBlock (λ v. map receiver_shape v.items) result (ahead_of block.new) (list_at (receiver_at (sections_of parts.now)) (ahead_of block.old)) }
+    ensures { ReadsBlock (λ v. map receiver_shape v.items) (list_at (receiver_at (sections_of parts.now))) block.old
+        result block.new }
 {
     read_list(alloc, parts, block)
 }

@@ -3,7 +3,7 @@
 ghost use Rattle.std.specs.Prelude.{◌≡◌, ◌<◌, map};
 ghost use Rattle.file_parts.specs.FileParts.{IsOfFile};
 ghost use Rattle.decl_spelling.specs.Reading.{times, list_at, some_at};
-ghost use Rattle.decl_reader.specs.Calls.{ReadsBlock, ahead_of, sections_of};
+ghost use Rattle.decl_reader.specs.Calls.{ReadsBlock, sections_of};
 
 use crate::block::{Block, read_number};
 use file_parts::Parts;
@@ -15,7 +15,7 @@ pub(crate) trait Listed: Drop {
     ghost use Rattle.file_parts.specs.FileParts.{IsOfFile};
     ghost use Rattle.decl_spelling.specs.Sections.{Sections};
     ghost use Rattle.decl_spelling.specs.Reading.{Reader};
-    ghost use Rattle.decl_reader.specs.Calls.{ReadsBlock, ahead_of, sections_of};
+    ghost use Rattle.decl_reader.specs.Calls.{ReadsBlock, sections_of};
 
     ghost Shape: { Type 0 };
 
@@ -26,7 +26,7 @@ pub(crate) trait Listed: Drop {
     /// Reads the next one.
     fn read(alloc: Global, parts: &Parts<'_>, block: &mut Block<'_>) -> Result<Self, ReadFault>
         requires { IsOfFile parts.now }
-        ensures { ReadsBlock shape result (ahead_of block.new) (reading (sections_of parts.now) (ahead_of block.old)) };
+        ensures { ReadsBlock shape (reading (sections_of parts.now)) block.old result block.new };
 }
 
 /// That many items.
@@ -37,7 +37,8 @@ pub(crate) fn read_times<T: Listed>(
     block: &mut Block<'_>,
 ) -> Result<Vec<T>, ReadFault>
     requires { IsOfFile parts.now }
-    ensures { ReadsBlock (λ v. map T.shape v.items) result (ahead_of block.new) (times (T.reading (sections_of parts.now)) count (ahead_of block.old)) }
+    ensures { ReadsBlock (λ v. map T.shape v.items) (times (T.reading (sections_of parts.now)) count) block.old result
+        block.new }
 {
     let mut items = Vec::new(alloc);
     for _ in 0..count {
@@ -55,7 +56,8 @@ pub(crate) fn read_list<T: Listed>(
     block: &mut Block<'_>,
 ) -> Result<Vec<T>, ReadFault>
     requires { IsOfFile parts.now }
-    ensures { ReadsBlock (λ v. map T.shape v.items) result (ahead_of block.new) (list_at (T.reading (sections_of parts.now)) (ahead_of block.old)) }
+    ensures { ReadsBlock (λ v. map T.shape v.items) (list_at (T.reading (sections_of parts.now))) block.old result
+        block.new }
 {
     let count = read_number(block)?;
     read_times(alloc, parts, count, block)
@@ -69,7 +71,8 @@ pub(crate) fn read_some<T: Listed>(
     block: &mut Block<'_>,
 ) -> Result<Vec<T>, ReadFault>
     requires { IsOfFile parts.now }
-    ensures { ReadsBlock (λ v. map T.shape v.items) result (ahead_of block.new) (some_at (T.reading (sections_of parts.now)) (ahead_of block.old)) }
+    ensures { ReadsBlock (λ v. map T.shape v.items) (some_at (T.reading (sections_of parts.now))) block.old result
+        block.new }
 {
     let at = block.cursor.place() as u64;
     let count = read_number(block)?;

@@ -3,7 +3,7 @@
 ghost use Rattle.std.specs.Prelude.{◌≡◌, map};
 ghost use Rattle.file_parts.specs.FileParts.{IsOfFile};
 ghost use Rattle.decl_spelling.specs.Descriptors.{variadic_at, sig_at};
-ghost use Rattle.decl_reader.specs.Calls.{ReadsBlock, ahead_of, sections_of};
+ghost use Rattle.decl_reader.specs.Calls.{ReadsBlock, sections_of};
 ghost use Rattle.decl_reader.specs.Shapes.{param_shape, sig_shape};
 
 use crate::block::{Block, read_pos, read_text, read_truth, read_type};
@@ -51,7 +51,7 @@ impl Listed for Param {
 
 /// The flag stands only where there is a parameter.
 fn read_variadic(params: &[Param], block: &mut Block<'_>) -> Result<bool, ReadFault>
-    ensures { ReadsBlock (λ b. b) result (ahead_of block.new) (variadic_at (map param_shape params.now) (ahead_of block.old)) }
+    ensures { ReadsBlock (λ b. b) (variadic_at (map param_shape params.now)) block.old result block.new }
 {
     if params.is_empty() {
         return Ok(false);
@@ -67,7 +67,7 @@ pub(crate) fn read_signature(
     block: &mut Block<'_>,
 ) -> Result<Signature, ReadFault>
     requires { IsOfFile parts.now }
-    ensures { ReadsBlock sig_shape result (ahead_of block.new) (sig_at (sections_of parts.now) (ahead_of block.old)) }
+    ensures { ReadsBlock sig_shape (sig_at (sections_of parts.now)) block.old result block.new }
 {
     let params = read_list(alloc, parts, block)?;
     let results = read_list(alloc, parts, block)?;

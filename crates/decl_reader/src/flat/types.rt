@@ -4,7 +4,7 @@ ghost use Rattle.std.specs.Prelude.{◌≡◌, ◌<◌};
 ghost use Rattle.file_parts.specs.FileParts.{IsOfFile};
 ghost use Rattle.decl_spelling.specs.Reading.{times, list_at, some_at, type_at};
 ghost use Rattle.decl_spelling.specs.Descriptors.{embedded_at};
-ghost use Rattle.decl_reader.specs.Calls.{ReadsBlock, ahead_of, sections_of};
+ghost use Rattle.decl_reader.specs.Calls.{ReadsBlock, sections_of};
 
 use crate::block::{Block, read_number, read_pos, read_type};
 use decl_spelling::Demand;
@@ -19,7 +19,7 @@ pub(crate) fn read_types(
     asked: Demand,
     block: &mut Block<'_>,
 ) -> Result<Vec<u64>, ReadFault>
-    ensures { ReadsBlock (λ v. v.items) result (ahead_of block.new) (some_at (type_at asked) (ahead_of block.old)) }
+    ensures { ReadsBlock (λ v. v.items) (some_at (type_at asked)) block.old result block.new }
 {
     let at = block.cursor.place() as u64;
     let count = read_number(block)?;
@@ -35,7 +35,7 @@ fn read_type_times(
     count: u64,
     block: &mut Block<'_>,
 ) -> Result<Vec<u64>, ReadFault>
-    ensures { ReadsBlock (λ v. v.items) result (ahead_of block.new) (times (type_at asked) count (ahead_of block.old)) }
+    ensures { ReadsBlock (λ v. v.items) (times (type_at asked) count) block.old result block.new }
 {
     let mut types = Vec::new(alloc);
     for _ in 0..count {
@@ -53,7 +53,7 @@ pub(crate) fn read_embedded(
     block: &mut Block<'_>,
 ) -> Result<Vec<u64>, ReadFault>
     requires { IsOfFile parts.now }
-    ensures { ReadsBlock (λ v. v.items) result (ahead_of block.new) (list_at (embedded_at (sections_of parts.now)) (ahead_of block.old)) }
+    ensures { ReadsBlock (λ v. v.items) (list_at (embedded_at (sections_of parts.now))) block.old result block.new }
 {
     let count = read_number(block)?;
     read_embedded_times(alloc, parts, count, block)
@@ -66,7 +66,7 @@ fn read_embedded_times(
     block: &mut Block<'_>,
 ) -> Result<Vec<u64>, ReadFault>
     requires { IsOfFile parts.now }
-    ensures { ReadsBlock (λ v. v.items) result (ahead_of block.new) (times (embedded_at (sections_of parts.now)) count (ahead_of block.old)) }
+    ensures { ReadsBlock (λ v. v.items) (times (embedded_at (sections_of parts.now)) count) block.old result block.new }
 {
     let mut types = Vec::new(alloc);
     for _ in 0..count {
@@ -83,7 +83,7 @@ fn read_embedded_type(
     block: &mut Block<'_>,
 ) -> Result<u64, ReadFault>
     requires { IsOfFile parts.now }
-    ensures { ReadsBlock (λ n. n) result (ahead_of block.new) (embedded_at (sections_of parts.now) (ahead_of block.old)) }
+    ensures { ReadsBlock (λ n. n) (embedded_at (sections_of parts.now)) block.old result block.new }
 {
     let _pos = read_pos(alloc, parts, block)?;
     read_type(block, Demand::Any)

@@ -1,7 +1,7 @@
 use Rattle.std.proofs.Common.{rules}
 use Rattle.decl_reader.specs.Calls.{sections_of}
-use Rattle.decl_reader.proofs.Proper.{read_proper}
-use Rattle.decl_reader.proofs.Wholes.{is_spelled}
+use Rattle.decl_reader.proofs.ProperDeclLemmas.{read_proper}
+use Rattle.decl_reader.proofs.WholeLemmas.{is_spelled}
 use Rattle.decl_reader.proofs.declaration.read_decl.Goals as goal
 
 pub returns-clause-found : goal.returns-clause-found

@@ -1,4 +1,4 @@
-use Rattle.decl_reader.proofs.Found.{is_head, is_no_head}
+use Rattle.decl_reader.proofs.HeadLemmas.{is_head, is_no_head}
 use Rattle.decl_reader.proofs.heads.read_head.Goals as goal
 
 pub returns-clause-found : goal.returns-clause-found

@@ -1,4 +1,4 @@
-use Rattle.decl_reader.proofs.Stacked.{covered_is, before_next, behind_limit, no_next}
+use Rattle.decl_reader.proofs.StackedLemmas.{covered_is, before_next, behind_limit, no_next}
 use Rattle.decl_reader.proofs.table.free_from.Goals as goal
 
 pub returns-then-covers : goal.returns-then-covers

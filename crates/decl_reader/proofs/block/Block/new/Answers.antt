@@ -1,4 +1,4 @@
-use Rattle.decl_reader.proofs.Wholes.{holds_bytes}
+use Rattle.decl_reader.proofs.WholeLemmas.{holds_bytes}
 use Rattle.decl_reader.proofs.block.Block.new.Goals as goal
 
 pub returns-clause-bytes : goal.returns-clause-bytes

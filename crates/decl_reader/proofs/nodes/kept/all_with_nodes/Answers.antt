@@ -6,7 +6,7 @@ use Rattle.type_terms.specs.Arenas.{AllBelow}
 use Rattle.type_terms.specs.Denotation.{tree}
 use Rattle.type_terms.specs.Extensions.{extends_again}
 use Rattle.decl_reader.specs.Meant.{Named, named_by}
-use Rattle.decl_reader.proofs.Extended.{one_more, one_more_below, all_kept, none_left}
+use Rattle.decl_reader.proofs.ExtendsLemmas.{one_more, one_more_below, all_kept, none_left}
 use Rattle.decl_reader.proofs.nodes.kept.all_with_nodes.Goals as goal
 
 pub loop-part-preserved : goal.loop-part-preserved

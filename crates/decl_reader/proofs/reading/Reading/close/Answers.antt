@@ -1,7 +1,7 @@
 use Rattle.decl_reader.specs.Blocks.{table_of}
 use Rattle.decl_reader.specs.Calls.{sections_of}
 use Rattle.decl_reader.specs.Shapes.{flat_shape}
-use Rattle.decl_reader.proofs.Closings.{generic_flat, own_is, own_ends, closed_if}
+use Rattle.decl_reader.proofs.ClosedLemmas.{generic_flat, own_is, own_ends, closed_if}
 use Rattle.decl_reader.proofs.reading.Reading.close.Goals as goal
 
 pub finish-requires-clause-generic : goal.finish-requires-clause-generic

@@ -4,8 +4,8 @@ use Rattle.decl_reader.specs.declared.table.Finished.{Finished}
 use Rattle.decl_reader.specs.Blocks.{AllInside, EndsBy, HasRoom, table_of, bytes_of}
 use Rattle.decl_reader.specs.Calls.{sections_of}
 use Rattle.decl_reader.specs.Shapes.{flat_shape}
-use Rattle.decl_reader.proofs.Closings.{extended_inside, grown_ready, joined_ok, joined_fault, joined_finished, no_fault_resolves}
-use Rattle.decl_reader.proofs.Entries.{added_table, added_inside, added_ends, added_bytes, added_room}
+use Rattle.decl_reader.proofs.ClosedLemmas.{extended_inside, grown_ready, joined_ok, joined_fault, joined_finished, no_fault_resolves}
+use Rattle.decl_reader.proofs.EntryLemmas.{added_table, added_inside, added_ends, added_bytes, added_room}
 use Rattle.decl_reader.proofs.reading.Reading.finish.Goals as goal
 
 pub returns-in_err-node-clause-exact : goal.returns-in_err-node-clause-exact

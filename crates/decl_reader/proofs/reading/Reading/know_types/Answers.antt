@@ -4,9 +4,9 @@ use Rattle.decl_spelling.specs.declared.mention.Mention.{Mention}
 use Rattle.decl_spelling.specs.Descent.{block_at, resolve_all}
 use Rattle.decl_reader.specs.Blocks.{table_of}
 use Rattle.decl_reader.specs.Calls.{sections_of}
-use Rattle.decl_reader.proofs.Beginnings.{body_length}
-use Rattle.decl_reader.proofs.Running.{resolves_as}
-use Rattle.decl_reader.proofs.Wholes.{types_same}
+use Rattle.decl_reader.proofs.BegunLemmas.{body_length}
+use Rattle.decl_reader.proofs.DescentLoop.{resolves_as}
+use Rattle.decl_reader.proofs.WholeLemmas.{types_same}
 use Rattle.decl_reader.proofs.reading.Reading.know_types.Goals as goal
 
 pub returns-in_err-read_types-clause-exact : goal.returns-in_err-read_types-clause-exact

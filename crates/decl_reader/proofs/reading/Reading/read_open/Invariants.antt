@@ -3,7 +3,7 @@ use Rattle.std.specs.Prelude.{reverse}
 use Rattle.decl_reader.specs.Calls.{sections_of}
 use Rattle.decl_reader.specs.Progress.{known}
 use Rattle.decl_reader.proofs.ProgressLemmas.{HasGoneOn}
-use Rattle.decl_reader.proofs.Running.{Running, all_weight}
+use Rattle.decl_reader.proofs.DescentLoop.{Running, all_weight}
 use Rattle.decl_reader.proofs.reading.Reading.read_open.Given as goal
 
 abbrev pub invariant-loop-current : goal.invariant-loop-current

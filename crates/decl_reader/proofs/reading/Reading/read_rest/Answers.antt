@@ -9,8 +9,8 @@ use Rattle.decl_reader.specs.Faults.{of_read}
 use Rattle.decl_reader.specs.Blocks.{table_of}
 use Rattle.decl_reader.specs.Calls.{sections_of, ahead_of}
 use Rattle.decl_reader.specs.Wholes.{value_by}
-use Rattle.decl_reader.proofs.Running.{never_full}
-use Rattle.decl_reader.proofs.Wholes.{value_then, then_fault, fault_as}
+use Rattle.decl_reader.proofs.DescentLoop.{never_full}
+use Rattle.decl_reader.proofs.WholeLemmas.{value_then, then_fault, fault_as}
 use Rattle.decl_reader.proofs.reading.Reading.read_rest.Goals as goal
 
 pub returns-in_err-value-in-Constant-clause-exact : goal.returns-in_err-value-in-Constant-clause-exact

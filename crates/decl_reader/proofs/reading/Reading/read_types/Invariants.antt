@@ -1,7 +1,7 @@
 use Rattle.decl_reader.specs.Calls.{sections_of}
 use Rattle.decl_reader.specs.Progress.{known}
 use Rattle.decl_reader.proofs.ProgressLemmas.{HasGoneOn}
-use Rattle.decl_reader.proofs.Running.{Reading}
+use Rattle.decl_reader.proofs.DescentLoop.{Reading}
 use Rattle.decl_reader.proofs.reading.Reading.read_types.Given as goal
 
 abbrev pub invariant-loop-mention : goal.invariant-loop-mention

@@ -5,9 +5,9 @@ use Rattle.decl_spelling.specs.Declarations.{Read}
 use Rattle.decl_reader.specs.Blocks.{table_of}
 use Rattle.decl_reader.specs.Calls.{sections_of, ahead_of}
 use Rattle.decl_reader.specs.Forms.{head_shape, decl_form}
-use Rattle.decl_reader.proofs.Beginnings.{body_length}
-use Rattle.decl_reader.proofs.Counted.{counts_first, counts_twice, counts_most, if_either, lies_in, reached_is, reached_most, counts_reached}
-use Rattle.decl_reader.proofs.Wholes.{first_is, whole_read, first_faults, rest_faults, kept_is, fault_as}
+use Rattle.decl_reader.proofs.BegunLemmas.{body_length}
+use Rattle.decl_reader.proofs.CountsLemmas.{counts_first, counts_twice, counts_most, if_either, lies_in, reached_is, reached_most, counts_reached}
+use Rattle.decl_reader.proofs.WholeLemmas.{first_is, whole_read, first_faults, rest_faults, kept_is, fault_as}
 use Rattle.decl_reader.proofs.reading.Reading.read_whole.Goals as goal
 
 pub returns-in_err-head-clause-exact : goal.returns-in_err-head-clause-exact

@@ -2,7 +2,7 @@ use Rattle.std.proofs.Common.{sym, ap, subst, ◌∙◌, ◌<◌, Option}
 use Rattle.std.specs.Prelude.{option_map, IfSome}
 use Rattle.decl_reader.specs.declared.table.Finished.{Finished}
 use Rattle.decl_reader.specs.Blocks.{finished_of, AllInside}
-use Rattle.decl_reader.proofs.Entries.{found_at, found_inside}
+use Rattle.decl_reader.proofs.EntryLemmas.{found_at, found_inside}
 use Rattle.decl_reader.proofs.table.Table.at.Goals as goal
 
 pub returns-clause-found : goal.returns-clause-found

@@ -1,6 +1,6 @@
 use Rattle.std.proofs.Common.{sym, subst}
 use Rattle.decl_reader.specs.Blocks.{IsStacked, HasRoom}
-use Rattle.decl_reader.proofs.Entries.{added_stacked}
+use Rattle.decl_reader.proofs.EntryLemmas.{added_stacked}
 use Rattle.decl_reader.proofs.table.Table.insert.Goals as goal
 
 pub invariant_of-self-2 : goal.invariant_of-self-2

@@ -2,7 +2,7 @@ use Rattle.std.proofs.Common.{◌<◌, ap, ◌∙◌, length}
 use Rattle.type_terms.specs.Extensions.{extends_below}
 use Rattle.type_terms.specs.Replaced.{all_append}
 use Rattle.decl_reader.specs.Meant.{Named}
-use Rattle.decl_reader.proofs.Extended.{named_stays, meaning_stays}
+use Rattle.decl_reader.proofs.ExtendsLemmas.{named_stays, meaning_stays}
 use Rattle.decl_reader.proofs.nodes.kept.Tuple2Kept.with_nodes.Goals as goal
 
 pub returns-clause-meant : goal.returns-clause-meant

@@ -22,17 +22,19 @@ use Rattle.decl_spelling.specs.Constants.{Spelling, Kind, spelled, floating, non
 use Rattle.decl_spelling.specs.Declarations.{FlatForm, Receiver, Head, whole, of_type, of_constant, head_at, receiver_at, resolved, has_methods, Read, read, methods_of, after_type, fault_alone, after_constant, after_head, read_at, decl_of, decl_at}
 use Rattle.decl_spelling.specs.Grammar.{Here}
 use Rattle.decl_spelling.specs.Spelling.{Known, Names, here, IsMethods, IsValue, IsForm, SpellsDecl}
-use Rattle.decl_spelling.proofs.Took.{Ask, asking, Fits, seen_from, IsHead, IsHeadParts, kind_of_head, head_asks, IsValueOf}
+use Rattle.decl_spelling.specs.Asks.{Ask, asking}
+use Rattle.decl_spelling.proofs.Took.{Fits, seen_from, IsHead, IsHeadParts, kind_of_head, head_asks, IsValueOf}
 use Rattle.decl_spelling.proofs.ValueReaders.{kind_spelling}
 use Rattle.decl_spelling.proofs.FlatLaws.{head_took, receivers_took, value_took}
 use Rattle.decl_spelling.proofs.TableLaws.{blocks_of, has_none}
-use Rattle.decl_spelling.proofs.NamedTypes.{Kept, known_named, known_still, named_still}
+use Rattle.decl_spelling.specs.KnownTypes.{Kept}
+use Rattle.decl_spelling.proofs.KnownTypeLemmas.{known_named, known_still, named_still}
 use Rattle.decl_spelling.proofs.Windows.{behind, byte_within}
-use Rattle.decl_spelling.proofs.Retyped.{form_twice}
-use Rattle.decl_spelling.proofs.AskedTypes.{IsMet, asks_from, mentions_met}
-use Rattle.decl_spelling.proofs.TypesTaken.{Fine, all_known}
-use Rattle.decl_spelling.proofs.Elementwise.{all_weaker, all_map}
-use Rattle.decl_spelling.proofs.BlocksTaken.{window_fits, here_is, block_takes}
+use Rattle.decl_spelling.proofs.RetypeLemmas.{form_twice}
+use Rattle.decl_spelling.proofs.AskLemmas.{IsMet, asks_from, mentions_met}
+use Rattle.decl_spelling.proofs.TypeTakes.{Fine, all_known}
+use Rattle.decl_spelling.proofs.MapLemmas.{all_weaker, all_map}
+use Rattle.decl_spelling.proofs.BlockTakes.{window_fits, here_is, block_takes}
 use Rattle.decl_spelling.proofs.Forms.{form_asks, form_all, whole_asks, form_types_map, with_tree, with_types, kind_same, receivers_numbers, generic_list, form_stands, Meets}
 
 -- ---- what single steps say

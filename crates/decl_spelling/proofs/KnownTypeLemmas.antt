@@ -1,22 +1,15 @@
 -- Which types the typeOffs of a block name, by a table of finished descriptors.
-use Rattle.std.proofs.Common.{◌≡◌, ℕ, ◌-◌, ◌<◌, ◌≤◌, ◌⊎◌, inl, inr, List, Contains, true, false, Option, Some, None, is_some, nat_lt, refl, sym, ◌∙◌, ap, arith}
+use Rattle.std.proofs.Common.{◌≡◌, ℕ, ◌-◌, ◌<◌, ◌≤◌, inl, inr, List, Contains, true, false, Option, Some, None, is_some, nat_lt, refl, sym, ◌∙◌, ap, arith}
 use Rattle.std.proofs.lemmas.Bool.Decides.{nat_tests}
 use Rattle.code_tables.specs.declared.predeclared.Basic.{Basic}
 use Rattle.decl_spelling.specs.declared.mention.Mention.{Mention}
 use Rattle.decl_spelling.specs.Sections.{Sections}
 use Rattle.decl_spelling.specs.Codes.{basic_of}
-use Rattle.decl_spelling.specs.Tables.{Finished, Table, at, basic_tree, finished_tree, type_named}
+use Rattle.decl_spelling.specs.Tables.{Table, at, basic_tree, finished_tree, type_named}
 use Rattle.decl_spelling.specs.Descent.{meets}
+use Rattle.decl_spelling.specs.KnownTypes.{Kept, IsKnown, IsAnswered}
 use Rattle.decl_spelling.specs.Spelling.{Block, Known, Names}
 use Rattle.decl_spelling.proofs.TableLaws.{block, blocks_of, block_found}
-
--- what was found stays
-abbrev pub Kept : Table → Table → Type 0
-Kept done known = (o : ℕ) (f : Finished) → at done o ≡ Some f → at known o ≡ Some f
-
--- The type of a typeOff is known for a block that starts at the holder.
-abbrev pub IsKnown : Sections → Table → ℕ → ℕ → Type 0
-IsKnown src done holder n = ((n < 32) × (is_some (basic_of src.version n) ≡ true)) ⊎ ((32 ≤ n) × (f : Finished) × (at done (n - 32) ≡ Some f) × (f.end ≤ holder))
 
 abbrev pub known_as : Sections → Table → ℕ → Known
 known_as src done n = record { number = n; tree = type_named src.version done n }
@@ -53,10 +46,6 @@ named_still src done known holder n kept (inl small) = named_basic src known n s
 named_still src done known holder n kept (inr large) =
     let before : at done (n - 32) ≡ Some large.1 = large.2 in
     named_block src known n large.0 ∙ ap finished_tree (kept (n - 32) large.1 large.2 ∙ sym before) ∙ sym (named_block src done n large.0)
-
--- a mention whose type is known, and is what its holder asks for
-abbrev pub IsAnswered : Sections → Table → ℕ → Mention → Type 0
-IsAnswered src done holder m = IsKnown src done holder m.value × (meets m.asked (type_named src.version done m.value) ≡ true)
 
 pub answered_still : (src : Sections) (done known : Table) (holder : ℕ) (m : Mention) → Kept done known → IsAnswered src done holder m → IsAnswered src known holder m
 answered_still src done known holder m kept answered =

@@ -7,12 +7,9 @@ use Rattle.std.specs.Ordering.{nat_cmp, is_eq, match_ordering}
 use Rattle.std.specs.declared.cmp.Ordering.{Ordering}
 use Rattle.std.specs.declared.cmp.Ordering.TheVariants.{Less, Equal, Greater}
 use Rattle.std.specs.Cmp.{nat_cmp_is}
-use Rattle.std.proofs.lemmas.Bool.{cases_lt, le-ltb}
+use Rattle.std.proofs.lemmas.Bool.{cases_lt}
 use Rattle.type_terms.specs.declared.descriptors.Node.{Node}
-use Rattle.code_tables.specs.declared.predeclared.Basic.TheVariants.{Bool as bool_type}
-use Rattle.type_terms.specs.Trees.{predeclared}
-use Rattle.decl_spelling.specs.Codes.{basic_of}
-use Rattle.decl_spelling.specs.Tables.{Table, at, with_block, basic_tree, finished_tree, type_named}
+use Rattle.decl_spelling.specs.Tables.{at, with_block}
 use Rattle.decl_reader.specs.declared.table.Finished.{Finished}
 use Rattle.decl_reader.specs.Blocks.{Entry, finished_of, table_of, with_entry, AllInside, EndsBy, HasRoom, IsStacked, bytes_of}
 
@@ -133,8 +130,3 @@ module _ (offset : ℕ) (f : Finished) (some : offset < f.end) where
   pub added_bytes : (es : List Entry) → IsStacked es → HasRoom offset f.end es → bytes_of (with_entry es offset f) ≡ bytes_of es + (f.end - offset)
   added_bytes [] stacked room = omega arith
   added_bytes (e ∷ es) stacked room = by_order_bytes e es (nat_cmp offset e.0) refl stacked.0 room (added_bytes es stacked.2 room.1)
-
--- a number of a descriptor that isn't there names some type
-pub none_named : (version : ℕ) (done : Table) (number : ℕ) → 32 ≤ number → at done (number - 32) ≡ None → predeclared bool_type ≡ type_named version done number
-none_named version done number large none =
-    sym (ap (λ b. cond b (basic_tree (basic_of version number)) (finished_tree (at done (number - 32)))) (le-ltb number 32 large) ∙ ap finished_tree none)

@@ -27,7 +27,7 @@ use Rattle.decl_spelling.specs.Spelling.{Block, Known, Names, IsInstanceOf, Soun
 use Rattle.decl_spelling.proofs.NewBlocks.{block_some}
 use Rattle.decl_spelling.proofs.Forms.{form_types_map}
 use Rattle.decl_reader.specs.declared.fault.DeclFault.{DeclFault}
-use Rattle.decl_reader.proofs.Generic.{generic_by_name}
+use Rattle.decl_reader.proofs.GenericFlatLemmas.{generic_by_name}
 
 abbrev tree_of_known : Known → Tree
 tree_of_known x = x.tree

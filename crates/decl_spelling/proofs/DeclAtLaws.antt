@@ -15,18 +15,20 @@ use Rattle.decl_spelling.specs.Descent.{block_at}
 use Rattle.decl_spelling.specs.Declarations.{head_at, Read, after_head, read_at, decl_of, decl_at, FirstFault, resolved, Head}
 use Rattle.decl_spelling.specs.Grammar.{Here}
 use Rattle.decl_spelling.specs.Spelling.{Block, Names, Sound, here, kind_of_decl, SpellsDecl, KnownForm, same_pos, same_text, Known}
-use Rattle.decl_spelling.proofs.Took.{seen_from, IsHead, head_asks, Fits, ask_of, unplaced_head}
+use Rattle.decl_spelling.specs.Asks.{ask_of}
+use Rattle.decl_spelling.proofs.Took.{seen_from, IsHead, head_asks, Fits, unplaced_head}
 use Rattle.decl_spelling.proofs.FlatLaws.{head_took, head_again}
 use Rattle.decl_spelling.proofs.TableLaws.{finished_of, some_is}
-use Rattle.decl_spelling.proofs.NamedTypes.{IsKnown, names_more}
+use Rattle.decl_spelling.specs.KnownTypes.{IsKnown}
+use Rattle.decl_spelling.proofs.KnownTypeLemmas.{names_more}
 use Rattle.decl_spelling.proofs.Windows.{behind, behind_length, byte_within}
-use Rattle.decl_spelling.proofs.AskedTypes.{asks_from}
-use Rattle.decl_spelling.proofs.BlocksTaken.{window_fits, here_is}
-use Rattle.decl_spelling.proofs.TypesAgain.{mentions_named, all_again}
-use Rattle.decl_spelling.proofs.BlocksAgain.{all_asked, block_again}
-use Rattle.decl_spelling.proofs.DeclarationsTaken.{blank, parts_at, decl_takes}
+use Rattle.decl_spelling.proofs.AskLemmas.{asks_from}
+use Rattle.decl_spelling.proofs.BlockTakes.{window_fits, here_is}
+use Rattle.decl_spelling.proofs.TypeAgain.{mentions_named, all_again}
+use Rattle.decl_spelling.proofs.BlockAgain.{all_asked, block_again}
+use Rattle.decl_spelling.proofs.DeclTakes.{blank, parts_at, decl_takes}
 use Rattle.decl_spelling.proofs.DeclarationHeads.{head_of, IsRest, head_stands, head_kind, head_named}
-use Rattle.decl_spelling.proofs.DeclarationsAgain.{asks_unplaced, next_done, resolved_done, rest_read}
+use Rattle.decl_spelling.proofs.DeclAgain.{asks_unplaced, next_done, resolved_done, rest_read}
 
 -- ---- sections of bytes
 

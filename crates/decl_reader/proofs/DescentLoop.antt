@@ -15,7 +15,8 @@ use Rattle.decl_spelling.specs.declared.mention.Mention.{Mention}
 use Rattle.decl_spelling.specs.Sections.{Sections}
 use Rattle.decl_spelling.specs.Tables.{Table}
 use Rattle.decl_spelling.specs.Descent.{resolve, resolve_all}
-use Rattle.decl_spelling.proofs.NamedTypes.{IsAnswered, answered_still}
+use Rattle.decl_spelling.specs.KnownTypes.{IsAnswered}
+use Rattle.decl_spelling.proofs.KnownTypeLemmas.{answered_still}
 use Rattle.std.specs.Prelude.{reverse, IsErrOf}
 use Rattle.std.proofs.Math.Nat.{one-le-pow, pow-le-pow_right, pow-suc, suc-mul, mul-add, mul_comm, mul-le-mul_right}
 use Rattle.std.proofs.lemmas.List.{reverse-append, reverse-reverse}
@@ -26,7 +27,7 @@ use Rattle.decl_reader.specs.Faults.{of_read}
 use Rattle.decl_reader.specs.Blocks.{Entry, table_of}
 use Rattle.decl_reader.specs.Frames.{closed, closed_by, resume}
 use Rattle.decl_reader.specs.Opens.{IsReady, IsOpen, IsOwn, IsBelow, IsBegun, IsClosed, EndsBefore, AreHolders, Begins, Resolves, reads, resumed, frame_of, holder_of, own_shape}
-use Rattle.decl_reader.proofs.Opened.{turn_known, turn_fault, turn_opens, turn_closes}
+use Rattle.decl_reader.proofs.ResumeLemmas.{turn_known, turn_fault, turn_opens, turn_closes}
 
 -- one more of its mentions is known
 abbrev pub one_more : Open → Open

@@ -2,7 +2,7 @@
 use Rattle.std.proofs.Common.{◌≡◌, List, map, refl, ap, ap₂}
 use Rattle.type_terms.specs.Shapes.{ParamOf, SigOf, MethodOf, Shape, func_of, struct_of, interface_of, instance_of, union_of, param_map, sig_map, method_map, retype}
 use Rattle.type_terms.specs.Declarations.{ReceiverOf, Form, function_of, defined_of, renamed_of, receiver_map, form_map}
-use Rattle.decl_spelling.proofs.Elementwise.{map_twice, map_same}
+use Rattle.decl_spelling.proofs.MapLemmas.{map_twice, map_same}
 
 -- twice
 module _ {R R' R'' : Type 0} (f : R → R') (g : R' → R'') (P S Q : Type 0) where

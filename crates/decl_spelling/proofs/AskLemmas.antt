@@ -15,9 +15,11 @@ use Rattle.decl_spelling.specs.Descriptors.{Flat}
 use Rattle.decl_spelling.specs.Tables.{Table, type_named}
 use Rattle.decl_spelling.specs.Descent.{meets}
 use Rattle.decl_spelling.specs.Spelling.{Block, Known, Names, IsInstanceOf, number_of}
-use Rattle.decl_spelling.proofs.Took.{Ask, Went, ask_of, asking, meets_unplaced, shape_asks}
-use Rattle.decl_spelling.proofs.NamedTypes.{IsKnown, IsAnswered, known_as}
-use Rattle.decl_spelling.proofs.Elementwise.{all_weaker, all_map, all_unmap}
+use Rattle.decl_spelling.specs.Asks.{Ask, ask_of, asking, shape_asks}
+use Rattle.decl_spelling.proofs.Took.{Went, meets_unplaced}
+use Rattle.decl_spelling.specs.KnownTypes.{IsKnown, IsAnswered}
+use Rattle.decl_spelling.proofs.KnownTypeLemmas.{known_as}
+use Rattle.decl_spelling.proofs.MapLemmas.{all_weaker, all_map, all_unmap}
 
 -- what was read from the start of a block, and nothing before
 pub asks_from : (a b : Ahead) (asks : List Ask) → a.mentions ≡ [] → Went a asks b → map ask_of b.mentions ≡ asks

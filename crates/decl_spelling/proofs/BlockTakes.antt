@@ -13,12 +13,13 @@ use Rattle.decl_spelling.specs.Tables.{Finished, Table, at, with_block, free_to,
 use Rattle.decl_spelling.specs.Descent.{ReadsBlock, resolve_all, finish, offset_of, block_at}
 use Rattle.decl_spelling.specs.Grammar.{Here, IsDescriptor}
 use Rattle.decl_spelling.specs.Spelling.{here}
-use Rattle.decl_spelling.proofs.Took.{Fits, seen_from, shape_asks}
+use Rattle.decl_spelling.specs.Asks.{shape_asks}
+use Rattle.decl_spelling.proofs.Took.{Fits, seen_from}
 use Rattle.decl_spelling.proofs.FlatLaws.{flat_took}
 use Rattle.decl_spelling.proofs.TableLaws.{blocks_of, found_new, free_within}
 use Rattle.decl_spelling.proofs.Windows.{part, behind, part_behind, cut_at, IsBytes-take}
-use Rattle.decl_spelling.proofs.AskedTypes.{asks_from, mentions_met}
-use Rattle.decl_spelling.proofs.TypesTaken.{Fine, Added, ReadsSoundly, all_known}
+use Rattle.decl_spelling.proofs.AskLemmas.{asks_from, mentions_met}
+use Rattle.decl_spelling.proofs.TypeTakes.{Fine, Added, ReadsSoundly, all_known}
 use Rattle.decl_spelling.proofs.NewBlocks.{descriptor_some, new_says, more_blocks, block_added}
 
 pub window_fits : (src : Sections) (from to : ℕ) → IsBytes src.body → Fits (start (window src from to))

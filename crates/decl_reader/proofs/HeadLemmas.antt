@@ -7,10 +7,10 @@ use Rattle.wire_bytes.proofs.Texts.{IsBytes-drop}
 use Rattle.file_parts.specs.declared.parts.Parts.{Parts}
 use Rattle.decl_spelling.specs.Sections.{Sections, HoldsBytes}
 use Rattle.decl_spelling.specs.Heads.{Lead, IsHead, head_lead}
-use Rattle.decl_spelling.proofs.Decided.{strings_are, body_is}
+use Rattle.decl_spelling.proofs.DeclAtLaws.{strings_are, body_is}
 use Rattle.decl_spelling.proofs.Windows.{IsBytes-take}
-use Rattle.decl_spelling.proofs.LeadsTaken.{AreBytes, head_taken}
-use Rattle.decl_spelling.proofs.LeadsAgain.{head_again}
+use Rattle.decl_spelling.proofs.LeadTakes.{AreBytes, head_taken}
+use Rattle.decl_spelling.proofs.LeadAgain.{head_again}
 use Rattle.decl_reader.specs.declared.heads.Head.{Head}
 use Rattle.decl_reader.specs.Calls.{sections_of}
 use Rattle.decl_reader.specs.Leads.{lead}

@@ -20,14 +20,14 @@ use Rattle.decl_spelling.specs.Constants.{basic_type, spelling_at, value_at}
 use Rattle.decl_spelling.specs.Declarations.{Head, Read, read, head_at, resolved, methods_of, after_type, fault_alone, after_constant, after_head, read_at, decl_of as decl_read, decl_at, FirstFault}
 use Rattle.decl_spelling.specs.Spelling.{SpellsDecl}
 use Rattle.decl_spelling.proofs.Bounds.{resolve_all_same, block_same}
-use Rattle.decl_spelling.proofs.Decided.{decl_found}
+use Rattle.decl_spelling.proofs.DeclAtLaws.{decl_found}
 use Rattle.decl_reader.specs.declared.fault.DeclFault.{DeclFault}
 use Rattle.decl_reader.specs.declared.fault.DeclFault.TheVariants.{Bytes, Nodes, OutOfMemory}
 use Rattle.decl_reader.specs.Calls.{sections_of}
 use Rattle.decl_reader.specs.Faults.{IsNoFault}
 use Rattle.decl_reader.specs.Opens.{reads, Resolves}
 use Rattle.decl_reader.specs.Wholes.{FaultIs, IfFault, ReadsDecl, all_known, methods_by, value_by}
-use Rattle.decl_reader.proofs.Found.{are_bytes}
+use Rattle.decl_reader.proofs.HeadLemmas.{are_bytes}
 
 -- ---- types
 

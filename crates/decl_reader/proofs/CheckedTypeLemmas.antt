@@ -13,10 +13,11 @@ use Rattle.decl_spelling.specs.Sections.{Sections}
 use Rattle.decl_spelling.specs.Codes.{basic_of}
 use Rattle.decl_spelling.specs.Tables.{Finished, Table, at, type_named, basic_tree, finished_tree}
 use Rattle.decl_spelling.specs.Descent.{meets, unmet, resolve}
-use Rattle.decl_spelling.proofs.NamedTypes.{IsAnswered, named_basic, named_block}
+use Rattle.decl_spelling.specs.KnownTypes.{IsAnswered}
+use Rattle.decl_spelling.proofs.KnownTypeLemmas.{named_basic, named_block}
 use Rattle.decl_reader.specs.Frames.{answered}
 use Rattle.decl_reader.specs.Opens.{reads, checked_type, checked_basic, checked_finished}
-use Rattle.decl_reader.proofs.Opened.{basic_there, no_basic, found_before, runs_over}
+use Rattle.decl_reader.proofs.ResumeLemmas.{basic_there, no_basic, found_before, runs_over}
 
 module _ (src : Sections) (holder : ℕ) (m : Mention) (done : Table) where
   by_type : (tree : Tree) → type_named src.version done m.value ≡ tree → answered src.version m done ≡ (checked_type m tree >>= λ u. Ok done)

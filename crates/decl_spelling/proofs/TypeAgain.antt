@@ -10,12 +10,14 @@ use Rattle.decl_spelling.specs.Codes.{basic_of}
 use Rattle.decl_spelling.specs.Tables.{Finished, Table, at, free_to, basic_tree, finished_tree, type_named}
 use Rattle.decl_spelling.specs.Descent.{ReadsBlock, meets, named_at, found_or_read, with_type, resolve, resolve_all}
 use Rattle.decl_spelling.specs.Spelling.{Block, Known, Names, Sound}
-use Rattle.decl_spelling.proofs.Took.{Ask, ask_of, meets_unplaced}
+use Rattle.decl_spelling.specs.Asks.{Ask, ask_of}
+use Rattle.decl_spelling.proofs.Took.{meets_unplaced}
 use Rattle.decl_spelling.proofs.TableLaws.{block, finished_of, found_all, none_there, stop_far}
-use Rattle.decl_spelling.proofs.NamedTypes.{Kept, IsKnown, known_still, named_basic, named_block}
-use Rattle.decl_spelling.proofs.AskedTypes.{IsNamed}
+use Rattle.decl_spelling.specs.KnownTypes.{Kept, IsKnown}
+use Rattle.decl_spelling.proofs.KnownTypeLemmas.{known_still, named_basic, named_block}
+use Rattle.decl_spelling.proofs.AskLemmas.{IsNamed}
 use Rattle.decl_spelling.proofs.NewBlocks.{block_some}
-use Rattle.decl_spelling.proofs.Elementwise.{all_weaker, all_unmap, all_both}
+use Rattle.decl_spelling.proofs.MapLemmas.{all_weaker, all_unmap, all_both}
 
 -- a mention of a type that its holder may name, and asks for
 abbrev pub IsNameable : Sections → List Block → ℕ → Mention → Type 0

@@ -7,7 +7,7 @@ use Rattle.wire_bytes.specs.declared.fault.ByteFault.{ByteFault}
 use Rattle.type_terms.specs.declared.descriptors.Node.{Node}
 use Rattle.decl_spelling.specs.Sections.{Sections, Basics, HoldsBytes}
 use Rattle.decl_spelling.specs.Declarations.{Read, read_at}
-use Rattle.decl_spelling.proofs.Decided.{strings_are, body_is}
+use Rattle.decl_spelling.proofs.DeclAtLaws.{strings_are, body_is}
 use Rattle.decl_spelling.proofs.Lengths.{block_length, decl_lies, decl_lengths}
 use Rattle.decl_reader.specs.Blocks.{Entry, table_of, finished_of, IsStacked, EndsBy, bytes_of}
 use Rattle.decl_reader.specs.Opens.{IsReady, Counts}

@@ -20,18 +20,20 @@ use Rattle.decl_spelling.specs.Constants.{Spelling, spelled, kind_of, basic_type
 use Rattle.decl_spelling.specs.Declarations.{FlatForm, Receiver, Head, whole, of_type, of_constant, receiver_at, resolved, has_methods, Read, methods_of, after_type, after_constant, after_head}
 use Rattle.decl_spelling.specs.Grammar.{Here, IsList}
 use Rattle.decl_spelling.specs.Spelling.{Block, Known, Names, Sound, KnownForm, numbers, number_of, same_pos, same_text, numbered_receiver, IsReceiver, IsMethods, IsValue}
-use Rattle.decl_spelling.proofs.Took.{Ask, asking, Fits, seen_from, head_asks, unplaced_head}
+use Rattle.decl_spelling.specs.Asks.{Ask, asking}
+use Rattle.decl_spelling.proofs.Took.{Fits, seen_from, head_asks, unplaced_head}
 use Rattle.decl_spelling.proofs.ValueReaders.{kind_spelling}
 use Rattle.decl_spelling.proofs.FlatLaws.{receivers_took, receivers_again, value_again}
-use Rattle.decl_spelling.proofs.NamedTypes.{Kept, IsKnown, known_still}
-use Rattle.decl_spelling.proofs.Retyped.{form_twice}
-use Rattle.decl_spelling.proofs.AskedTypes.{IsNamed, asks_from, any_named}
-use Rattle.decl_spelling.proofs.TypesAgain.{Inside, mentions_named, tree_is, all_again}
-use Rattle.decl_spelling.proofs.BlocksAgain.{all_asked, block_again}
+use Rattle.decl_spelling.specs.KnownTypes.{Kept, IsKnown}
+use Rattle.decl_spelling.proofs.KnownTypeLemmas.{known_still}
+use Rattle.decl_spelling.proofs.RetypeLemmas.{form_twice}
+use Rattle.decl_spelling.proofs.AskLemmas.{IsNamed, asks_from, any_named}
+use Rattle.decl_spelling.proofs.TypeAgain.{Inside, mentions_named, tree_is, all_again}
+use Rattle.decl_spelling.proofs.BlockAgain.{all_asked, block_again}
 use Rattle.decl_spelling.proofs.Forms.{form_asks, form_all, form_types_map, receivers_types_map}
 use Rattle.decl_spelling.proofs.DeclarationHeads.{flat_form, head_of, IsRest}
-use Rattle.decl_spelling.proofs.DeclarationsTaken.{blank}
-use Rattle.decl_spelling.proofs.Elementwise.{all_weaker, all_unmap, all_both}
+use Rattle.decl_spelling.proofs.DeclTakes.{blank}
+use Rattle.decl_spelling.proofs.MapLemmas.{all_weaker, all_unmap, all_both}
 
 -- ---- a head without the place of its typeOff
 

@@ -14,25 +14,26 @@ use Rattle.decl_spelling.specs.Descriptors.{Flat, flat_at}
 use Rattle.decl_spelling.specs.Tables.{Table, free_to}
 use Rattle.decl_spelling.specs.Descent.{offset_of}
 use Rattle.decl_spelling.specs.Grammar.{Here, IsParts, IsDescriptor}
-use Rattle.decl_spelling.proofs.Took.{seen_from, ask_of, shape_asks}
+use Rattle.decl_spelling.specs.Asks.{ask_of, shape_asks}
+use Rattle.decl_spelling.proofs.Took.{seen_from}
 use Rattle.decl_spelling.proofs.FlatLaws.{flat_took, flat_few}
 use Rattle.decl_spelling.proofs.NewBlocks.{descriptor_some}
-use Rattle.decl_spelling.proofs.BlocksTaken.{window_fits, offset_is}
-use Rattle.decl_spelling.proofs.AskedTypes.{asks_from}
+use Rattle.decl_spelling.proofs.BlockTakes.{window_fits, offset_is}
+use Rattle.decl_spelling.proofs.AskLemmas.{asks_from}
 use Rattle.decl_spelling.proofs.Windows.{part, behind, part_length, cut_at}
 use Rattle.wire_bytes.specs.declared.fault.ByteFault.{ByteFault}
 use Rattle.file_parts.specs.declared.parts.Parts.{Parts}
 use Rattle.decl_spelling.specs.Sections.{HoldsBytes}
 use Rattle.decl_spelling.specs.Tables.{at}
 use Rattle.decl_spelling.proofs.TableLaws.{free_within}
-use Rattle.decl_spelling.proofs.Decided.{strings_are, body_is}
+use Rattle.decl_spelling.proofs.DeclAtLaws.{strings_are, body_is}
 use Rattle.decl_reader.specs.declared.block.Block.{Block}
 use Rattle.decl_reader.specs.declared.flat.descriptors.Flat.{Flat as FlatParts}
 use Rattle.file_parts.specs.FileParts.{IsOfFile, body_of}
 use Rattle.decl_reader.specs.Calls.{ahead_of}
 use Rattle.decl_reader.specs.Shapes.{flat_shape}
 use Rattle.decl_reader.specs.Opens.{IsBegun}
-use Rattle.decl_reader.proofs.Opened.{begins}
+use Rattle.decl_reader.proofs.ResumeLemmas.{begins}
 use Rattle.decl_reader.specs.Blocks.{Entry, table_of, HasRoom, IsStacked}
 use Rattle.decl_reader.specs.Opens.{HasArgument}
 
@@ -214,3 +215,16 @@ module _ (src : Sections) (holds : HoldsBytes src) (entries : List Entry) (stack
         below = (before, tt);
         turn = turn;
       })
+
+  -- the same at an offset that is this one
+  pub begun_whole_at : (start_at : ℕ) → offset ≡ start_at → (flat : FlatParts) (block : Block) (own : Result (FlatParts × ℕ) ByteFault) → flat_at src (start (window src start_at (free_to start_at holder done))) ≡ Ok (flat_shape flat, ahead_of block)
+      → own ≡ Ok (flat, offset_of src (ahead_of block)) → IsBegun src done entries holder named (record { start = start_at; own = own; mentions = block.mentions; known = 0; named = named })
+  begun_whole_at start_at same flat block own =
+      subst (λ (o : ℕ). flat_at src (start (window src o (free_to o holder done))) ≡ Ok (flat_shape flat, ahead_of block) → own ≡ Ok (flat, offset_of src (ahead_of block))
+      → IsBegun src done entries holder named (record { start = o; own = own; mentions = block.mentions; known = 0; named = named })) same (begun_whole flat block own)
+
+  pub begun_fault_at : (start_at : ℕ) → offset ≡ start_at → (block : Block) (f : ByteFault) (own : Result (FlatParts × ℕ) ByteFault) → flat_at src (start (window src start_at (free_to start_at holder done))) ≡ Err (record { fault = f; mentions = block.mentions.items })
+      → own ≡ Err f → IsBegun src done entries holder named (record { start = start_at; own = own; mentions = block.mentions; known = 0; named = named })
+  begun_fault_at start_at same block f own =
+      subst (λ (o : ℕ). flat_at src (start (window src o (free_to o holder done))) ≡ Err (record { fault = f; mentions = block.mentions.items }) → own ≡ Err f
+      → IsBegun src done entries holder named (record { start = o; own = own; mentions = block.mentions; known = 0; named = named })) same (begun_fault block f own)

@@ -22,9 +22,10 @@ use Rattle.decl_spelling.specs.Descriptors.{Flat}
 use Rattle.decl_spelling.specs.Tables.{Finished as Placed, Table, at, with_block, type_named, finished_tree}
 use Rattle.decl_spelling.specs.Descent.{meets, unmet}
 use Rattle.decl_spelling.specs.Spelling.{IsInstanceOf}
-use Rattle.decl_spelling.proofs.NamedTypes.{Kept, IsAnswered, known_as, named_block}
-use Rattle.decl_spelling.proofs.Took.{ask_of, shape_asks}
-use Rattle.decl_spelling.proofs.AskedTypes.{mentions_met, base_met}
+use Rattle.decl_spelling.specs.KnownTypes.{Kept, IsAnswered}
+use Rattle.decl_spelling.proofs.KnownTypeLemmas.{known_as, named_block}
+use Rattle.decl_spelling.specs.Asks.{ask_of, shape_asks}
+use Rattle.decl_spelling.proofs.AskLemmas.{mentions_met, base_met}
 use Rattle.decl_spelling.proofs.TableLaws.{found_new, found_still}
 use Rattle.decl_reader.specs.declared.descent.Open.{Open}
 use Rattle.decl_reader.specs.Blocks.{Entry, finished_of, table_of, AllInside, EndsBy, HasRoom, IsStacked}

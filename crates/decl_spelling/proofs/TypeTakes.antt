@@ -13,7 +13,8 @@ use Rattle.decl_spelling.specs.Tables.{Finished, Table, at, type_named}
 use Rattle.decl_spelling.specs.Descent.{ReadsBlock, meets, unmet, named_at, found_or_read, with_descriptor, with_basic, with_type, resolve, resolve_all}
 use Rattle.decl_spelling.specs.Spelling.{Sound}
 use Rattle.decl_spelling.proofs.TableLaws.{Rising, blocks_of}
-use Rattle.decl_spelling.proofs.NamedTypes.{Kept, IsKnown, IsAnswered, answered_still}
+use Rattle.decl_spelling.specs.KnownTypes.{Kept, IsKnown, IsAnswered}
+use Rattle.decl_spelling.proofs.KnownTypeLemmas.{answered_still}
 
 -- what is finished is in order, and explains itself
 pub record Fine (src : Sections) (done : Table) : Type 0 where

@@ -24,7 +24,7 @@ use Rattle.file_parts.specs.Paths.{meant}
 use Rattle.decl_spelling.specs.Sections.{Sections}
 use Rattle.decl_spelling.specs.Codes.{basic_of, type_tag_of, decl_tag_of}
 use Rattle.decl_spelling.specs.Heads.{Lead, to_basic, to_name, HasText, HasFile, HasLine, HasPosition, HasNumbers, HasName, IsKindAt, IsNameAt, IsInstanceAt, LeadsTo, HasTParams, IsHead, ◌>>=◌, front_of, find_number, find_signed, find_text, pass_file, pass_line, pass_position, pass_times, pass_numbers, find_name, kind_at, name_by, name_at, find_base, type_by, lead_at, lead_of, pass_tparams, find_byte, head_lead}
-use Rattle.decl_spelling.proofs.Taken.{number_again}
+use Rattle.decl_spelling.proofs.ValueTakes.{number_again}
 use Rattle.decl_spelling.proofs.CodeLaws.{type_tag_of_takes, decl_tag_of_takes}
 
 -- ---- steps

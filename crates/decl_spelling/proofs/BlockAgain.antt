@@ -16,17 +16,18 @@ use Rattle.decl_spelling.specs.Tables.{Finished, Table, at, with_block, free_to,
 use Rattle.decl_spelling.specs.Descent.{ReadsBlock, resolve_all, finish, offset_of, block_at}
 use Rattle.decl_spelling.specs.Grammar.{Here, IsDescriptor}
 use Rattle.decl_spelling.specs.Spelling.{Block, Known, Names, Sound, Says, number_of}
-use Rattle.decl_spelling.proofs.Took.{Ask, ask_of, seen_from, shape_asks}
+use Rattle.decl_spelling.specs.Asks.{Ask, ask_of, shape_asks}
+use Rattle.decl_spelling.proofs.Took.{seen_from}
 use Rattle.decl_spelling.proofs.FlatLaws.{flat_took, flat_again}
 use Rattle.decl_spelling.proofs.TableLaws.{block, finished_of, all_new, found_new, found_still, free_within}
-use Rattle.decl_spelling.proofs.NamedTypes.{Kept, IsKnown}
+use Rattle.decl_spelling.specs.KnownTypes.{Kept, IsKnown}
 use Rattle.decl_spelling.proofs.Windows.{behind, behind_length}
-use Rattle.decl_spelling.proofs.Retyped.{retype_twice}
-use Rattle.decl_spelling.proofs.AskedTypes.{asks_from, shape_all, shape_named}
+use Rattle.decl_spelling.proofs.RetypeLemmas.{retype_twice}
+use Rattle.decl_spelling.proofs.AskLemmas.{asks_from, shape_all, shape_named}
 use Rattle.decl_spelling.proofs.NewBlocks.{block_some}
-use Rattle.decl_spelling.proofs.BlocksTaken.{window_fits, here_is, offset_is}
-use Rattle.decl_spelling.proofs.TypesAgain.{Inside, ReadsAgain, mentions_named, found_one, block_free, tree_is, all_again}
-use Rattle.decl_spelling.proofs.Elementwise.{all_map, all_unmap, all_both}
+use Rattle.decl_spelling.proofs.BlockTakes.{window_fits, here_is, offset_is}
+use Rattle.decl_spelling.proofs.TypeAgain.{Inside, ReadsAgain, mentions_named, found_one, block_free, tree_is, all_again}
+use Rattle.decl_spelling.proofs.MapLemmas.{all_map, all_unmap, all_both}
 
 -- what holds of the typeOffs of mentions
 pub all_asked : (P : ℕ → Type 0) (ms : List Mention) (asks : List Ask) → map ask_of ms ≡ asks → AllByRecursion (λ m. P m.value) ms → AllByRecursion (λ ask. P ask.0) asks
