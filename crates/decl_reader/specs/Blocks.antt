@@ -1,8 +1,10 @@
 -- The descriptors that were read whole, as the code keeps them: by their offsets, with the nodes of their types.
-use Rattle.std.specs.Prelude.{◌≡◌, ℕ, ◌+◌, ◌-◌, ◌<◌, ◌≤◌, ◌⊎◌, List, [], ◌∷◌, ◌++◌, map, Bool, false, nat_lt, Option, Some, None}
+use Rattle.std.specs.Prelude.{◌≡◌, ℕ, ◌+◌, ◌-◌, ◌<◌, ◌≤◌, ◌⊎◌, List, [], ◌∷◌, ◌++◌, map, Bool, false, nat_lt, Option}
+use Rattle.std.specs.Prelude.{Some, None}
 use Rattle.std.specs.List.{AllByRecursion}
 use Rattle.std.specs.Ordering.{nat_cmp}
 use Rattle.std.specs.declared.ops.Bound.TheVariants.{Included, Unbounded}
+use Rattle.std.specs.BTreeMap.{insert_entry}
 use Rattle.std.specs.BTreeMap.Range.{entries_between}
 use Rattle.type_terms.specs.declared.descriptors.Node.{Node}
 use Rattle.type_terms.specs.Denotation.{tree}
@@ -21,6 +23,10 @@ entry_of nodes entry = (entry.0, finished_of nodes entry.1)
 
 abbrev pub table_of : List Node → List Entry → of_trees.Table
 table_of nodes entries = map (entry_of nodes) entries
+
+-- with one more
+abbrev pub with_entry : List Entry → ℕ → Finished → List Entry
+with_entry entries offset finished = insert_entry nat_cmp entries offset finished
 
 -- their nodes are among so many
 abbrev pub AllInside : ℕ → List Entry → Type 0
@@ -42,7 +48,8 @@ HasRoom from to = AllByRecursion (λ entry. (entry.1.end ≤ from) ⊎ (to ≤ e
 -- each block has a byte, and ends before those behind it start
 abbrev pub IsStacked : List Entry → Type 0
 IsStacked [] = Unit {0}
-IsStacked (entry ∷ rest) = (entry.0 < entry.1.end) × AllByRecursion (λ later. entry.1.end ≤ later.0) rest × IsStacked rest
+IsStacked (entry ∷ rest) =
+    (entry.0 < entry.1.end) × AllByRecursion (λ later. entry.1.end ≤ later.0) rest × IsStacked rest
 
 -- those that start at the offset or before it
 abbrev pub up_to : ℕ → List Entry → List Entry
@@ -54,7 +61,9 @@ from offset entries = entries_between nat_cmp (Included offset) Unbounded entrie
 
 -- whether the last of these has the byte at the offset
 abbrev pub Covers : Bool → ℕ → List Entry → Type 0
-Covers found offset entries = ((entries ≡ []) × (found ≡ false)) ⊎ ((front : List Entry) × (last : Entry) × (entries ≡ front ++ last ∷ []) × (found ≡ nat_lt offset last.1.end))
+Covers found offset entries =
+    ((entries ≡ []) × (found ≡ false))
+    ⊎ ((front : List Entry) × (last : Entry) × (entries ≡ front ++ last ∷ []) × (found ≡ nat_lt offset last.1.end))
 
 abbrev pub StartsFirst : Option ℕ → List Entry → Type 0
 StartsFirst (Some start) entries = (first : Entry) × (rest : List Entry) × (entries ≡ first ∷ rest) × (start ≡ first.0)

@@ -4,7 +4,8 @@ use Rattle.type_terms.specs.Declarations.{var_of, function_of, constant_of, defi
 use Rattle.decl_spelling.specs.Declarations.{FlatForm, Receiver, Head, whole, of_type, of_constant}
 use Rattle.decl_reader.specs.declared.flat.declarations.ReceiverParts.{ReceiverParts}
 use Rattle.decl_reader.specs.declared.flat.declarations.DeclParts.{DeclParts}
-use Rattle.decl_reader.specs.declared.flat.declarations.DeclParts.TheVariants.{Var, Func, Constant, Defined, Alias, Parameter}
+use Rattle.decl_reader.specs.declared.flat.declarations.DeclParts.TheVariants.{Var, Func, Constant, Defined, Alias}
+use Rattle.decl_reader.specs.declared.flat.declarations.DeclParts.TheVariants.{Parameter}
 use Rattle.decl_reader.specs.declared.flat.declarations.DeclHead.{DeclHead}
 use Rattle.decl_reader.specs.declared.flat.declarations.DeclHead.TheVariants as heads
 use Rattle.decl_reader.specs.Shapes.{param_shape, sig_shape}
@@ -16,7 +17,8 @@ abbrev pub decl_form : DeclParts → FlatForm
 decl_form (Var pos ty) = var_of pos ty
 decl_form (Func pos tparams signature) = function_of pos tparams.items (sig_shape signature)
 decl_form (Constant pos ty value) = constant_of pos ty value
-decl_form (Defined pos tparams underlying methods) = defined_of pos tparams.items underlying (map receiver_shape methods.items)
+decl_form (Defined pos tparams underlying methods) =
+    defined_of pos tparams.items underlying (map receiver_shape methods.items)
 decl_form (Alias pos tparams ty) = renamed_of pos tparams.items ty
 decl_form (Parameter pos implicit constraint) = type_parameter_of pos implicit constraint
 

@@ -11,8 +11,8 @@ use Rattle.decl_spelling.specs.Descriptors.{Flat}
 use Rattle.decl_spelling.specs.Tables.{Table, with_block, type_named}
 use Rattle.decl_spelling.specs.Descent.{ReadsBlock, meets, unmet, named_at, resolve_all, offset_of}
 
--- where it starts, its types that are still to be known, its shape and where it ends or the fault in its own bytes, and the
--- mention that named it
+-- where it starts, its types that are still to be known, its shape and where it ends or the fault in its own bytes, and
+-- the mention that named it
 pub record Frame : Type 0 where
   pub start : ℕ
   pub left : List Mention
@@ -33,7 +33,8 @@ abbrev pub answered : ℕ → Mention → Table → Result Table ByteFault
 answered version m done = demand (meets m.asked (type_named version done m.value)) (unmet m m.asked) >>= λ _. Ok done
 
 abbrev pub with_shape : ℕ → ℕ → Flat × ℕ → Table → Table
-with_shape version start x done = with_block done start (record { end = x.1; tree = tree_of (retype (type_named version done) x.0) })
+with_shape version start x done =
+    with_block done start (record { end = x.1; tree = tree_of (retype (type_named version done) x.0) })
 
 -- A descriptor whose types are known is closed: it is among the finished ones, or it was at fault.
 abbrev pub closed_by : ℕ → ℕ → Mention → Result (Flat × ℕ) ByteFault → Table → Result Table ByteFault
@@ -46,4 +47,6 @@ closed version f done = closed_by version f.start f.named f.own done
 -- what open descriptors still come to, the innermost first
 abbrev pub resume : Sections → ReadsBlock → List Frame → Table → Result Table ByteFault
 resume src read [] done = Ok done
-resume src read (f ∷ fs) done = resolve_all src read f.start f.left done >>= λ known. closed src.version f known >>= λ after. resume src read fs after
+resume src read (f ∷ fs) done =
+    resolve_all src read f.start f.left done >>= λ known. closed src.version f known
+    >>= λ after. resume src read fs after

@@ -1,4 +1,5 @@
 pub mod Faults
+pub mod TypeOffs
 pub mod Calls
 pub mod Shapes
 pub mod Spellings
@@ -7,5 +8,6 @@ pub mod Leads
 pub mod Blocks
 pub mod Frames
 pub mod Opens
+pub mod Progress
 pub mod Meant
 pub mod Wholes

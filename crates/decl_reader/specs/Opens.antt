@@ -1,8 +1,11 @@
 -- Descriptors that are open, as the code keeps them, and what its calls answer.
-use Rattle.std.specs.Prelude.{◌≡◌, ℕ, ◌+◌, ◌<◌, ◌≤◌, List, [], ◌∷◌, length, take, drop, map, Result, Ok, Err, Option, Some, None, nat_le}
+use Rattle.std.specs.Prelude.{◌≡◌, ℕ, ◌+◌, ◌<◌, ◌≤◌, List, [], ◌∷◌, length, take, drop, map, Result, Ok, Err, Option}
+use Rattle.std.specs.Prelude.{Some, None, nat_le}
 use Rattle.std.specs.List.{AllByRecursion}
 use Rattle.wire_bytes.specs.declared.fault.ByteFault.{ByteFault}
 use Rattle.wire_bytes.specs.declared.fault.ByteFault.TheVariants as faults
+use Rattle.wire_bytes.specs.declared.fault.ReadFault.{ReadFault}
+use Rattle.wire_bytes.specs.declared.fault.ReadFault.TheVariants as reading
 use Rattle.wire_bytes.specs.Reading.{◌>>=◌, demand}
 use Rattle.code_tables.specs.declared.predeclared.Basic.{Basic}
 use Rattle.type_terms.specs.Trees.{Tree, predeclared}
@@ -12,8 +15,8 @@ use Rattle.decl_spelling.specs.Sections.{Sections}
 use Rattle.decl_spelling.specs.Descriptors.{Flat as Shape}
 use Rattle.decl_spelling.specs.Tables.{Table, Finished}
 use Rattle.decl_spelling.specs.Descent.{ReadsBlock, block_at, resolve, resolve_all, meets, unmet}
-use Rattle.decl_spelling.proofs.NamedTypes.{Kept, IsAnswered}
-use Rattle.decl_spelling.proofs.Took.{ask_of, shape_asks}
+use Rattle.decl_spelling.specs.KnownTypes.{Kept, IsAnswered}
+use Rattle.decl_spelling.specs.Asks.{ask_of, shape_asks}
 use Rattle.decl_reader.specs.declared.flat.descriptors.Flat.{Flat}
 use Rattle.decl_reader.specs.declared.descent.Open.{Open}
 use Rattle.decl_reader.specs.declared.fault.DeclFault.{DeclFault}
@@ -32,6 +35,12 @@ pub record IsReady (limit size : ℕ) (entries : List Entry) : Type 0 where
 abbrev pub reads : Sections → ReadsBlock
 reads src = block_at src (length src.body)
 
+abbrev pub resolve_type : Sections → ℕ → Mention → Table → Result Table ByteFault
+resolve_type src holder m done = resolve src (reads src) holder m done
+
+abbrev pub resolve_types : Sections → ℕ → List Mention → Table → Result Table ByteFault
+resolve_types src holder ms done = resolve_all src (reads src) holder ms done
+
 -- the steps that were taken are the bytes that the table got
 abbrev pub Counts : ℕ → List Entry → ℕ → List Entry → Type 0
 Counts steps entries after more = after + bytes_of entries ≡ steps + bytes_of more
@@ -49,7 +58,13 @@ own_shape (Err f) = Err f
 
 -- an open descriptor whose mentions from one on are still to be known
 abbrev pub frame_from : ℕ → Open → Frame
-frame_from k open_one = record { start = open_one.start; left = drop k open_one.mentions.items; own = own_shape open_one.own; named = open_one.named }
+frame_from k open_one =
+    record {
+      start = open_one.start;
+      left = drop k open_one.mentions.items;
+      own = own_shape open_one.own;
+      named = open_one.named;
+    }
 
 abbrev pub frame_of : Open → Frame
 frame_of o = frame_from o.known o
@@ -65,7 +80,9 @@ HasArgument _ = Unit {0}
 
 -- What was read whole is what its mentions say, and no finished descriptor has a byte of it.
 abbrev pub IsOwn : List Entry → ℕ → List Mention → Result (Flat × ℕ) ByteFault → Type 0
-IsOwn entries start mentions (Ok x) = (map ask_of mentions ≡ shape_asks (flat_shape x.0)) × HasArgument (flat_shape x.0) × (start < x.1) × HasRoom start x.1 entries
+IsOwn entries start mentions (Ok x) =
+    (map ask_of mentions ≡ shape_asks (flat_shape x.0)) × HasArgument (flat_shape x.0) × (start < x.1)
+    × HasRoom start x.1 entries
 IsOwn entries start mentions (Err f) = Unit {0}
 
 -- it ends at an offset or before it, if it has an end
@@ -87,24 +104,30 @@ pub record IsOpen (src : Sections) (done : Table) (entries : List Entry) (o : Op
 abbrev pub IsBelow : Open → ℕ → Type 0
 IsBelow o offset = (o.start < offset) × EndsBefore o.own offset
 
+-- what the types of a descriptor that was opened come to for the mention that named it
+abbrev pub opened : Sections → Mention → Open → Table → Result Table ByteFault
+opened src named o done =
+    resolve_all src (reads src) o.start o.mentions.items done >>= closed_by src.version o.start named (own_shape o.own)
+
 -- a descriptor that was just opened for a holder, and what reading its types comes to for the mention that named it
-pub record IsBegun (src : Sections) (done : Table) (entries : List Entry) (holder : ℕ) (named : Mention) (o : Open) : Type 0 where
+pub record IsBegun (src : Sections) (done : Table) (entries : List Entry) (holder : ℕ) (named : Mention) (o : Open) :
+    Type 0 where
   pub fresh : o.known ≡ 0
   pub its_mention : o.named ≡ named
   pub is_open : IsOpen src done entries o
   pub below : IsBelow o holder
-  pub turn : resolve src (reads src) holder named done ≡ (resolve_all src (reads src) o.start o.mentions.items done >>= closed_by src.version o.start named (own_shape o.own))
+  pub turn : resolve src (reads src) holder named done ≡ opened src named o done
 
 -- what a mention needs: nothing more, or a descriptor that was opened
-abbrev pub Begins : Sections → Table → List Entry → ℕ → Mention → Result (Option Open) DeclFault → Type 0
-Begins src done entries holder named (Ok None) = (resolve src (reads src) holder named done ≡ Ok done) × IsAnswered src done holder named
+abbrev pub Begins : Sections → Table → List Entry → ℕ → Mention → Result (Option Open) ReadFault → Type 0
+Begins src done entries holder named (Ok None) =
+    (resolve src (reads src) holder named done ≡ Ok done) × IsAnswered src done holder named
 Begins src done entries holder named (Ok (Some o)) = IsBegun src done entries holder named o
-Begins src done entries holder named (Err (Bytes f)) = resolve src (reads src) holder named done ≡ Err f
-Begins src done entries holder named (Err Nodes) = ⊥
-Begins src done entries holder named (Err OutOfMemory) = Unit {0}
+Begins src done entries holder named (Err (reading.Bytes f)) = resolve src (reads src) holder named done ≡ Err f
+Begins src done entries holder named (Err reading.OutOfMemory) = Unit {0}
 
--- A descriptor was closed: it is among the finished ones, which stay, and where it ends at or before an offset it leaves the
--- room from there on.
+-- A descriptor was closed: it is among the finished ones, which stay, and where it ends at or before an offset it
+-- leaves the room from there on.
 pub record IsClosed (src : Sections) (old new : Table) (before after : List Entry) (o : Open) : Type 0 where
   pub kept : Kept old new
   pub answered : (holder : ℕ) → IsBelow o holder → IsAnswered src new holder o.named
@@ -114,7 +137,9 @@ pub record IsClosed (src : Sections) (old new : Table) (before after : List Entr
 abbrev pub AreHolders : Sections → Table → List Entry → Open → List Open → Type 0
 AreHolders src done entries inner [] = Unit {0}
 AreHolders src done entries inner (o ∷ os) =
-    IsOpen src done entries o × (o.known < length o.mentions.items) × (drop o.known o.mentions.items ≡ inner.named ∷ drop (o.known + 1) o.mentions.items) × IsBelow inner o.start × AreHolders src done entries o os
+    IsOpen src done entries o × (o.known < length o.mentions.items)
+    × (drop o.known o.mentions.items ≡ inner.named ∷ drop (o.known + 1) o.mentions.items) × IsBelow inner o.start
+    × AreHolders src done entries o os
 
 abbrev pub resumed : Sections → Open → List Open → Table → Result Table ByteFault
 resumed src first holders done = resume src (reads src) (frame_of first ∷ map holder_of holders) done
@@ -129,10 +154,12 @@ checked_basic m (Some basic) = checked_type m (predeclared basic)
 checked_basic m None = Err (faults.Range m.at m.value)
 
 abbrev pub checked_finished : ℕ → Mention → Finished → Result (Unit {0}) ByteFault
-checked_finished holder m finished = demand (nat_le finished.end holder) (faults.Range m.at m.value) >>= λ u. checked_type m finished.tree
+checked_finished holder m finished =
+    demand (nat_le finished.end holder) (faults.Range m.at m.value) >>= λ u. checked_type m finished.tree
 
 -- the same of a descriptor that ends at an offset
-pub record IsFinished (src : Sections) (old new : Table) (before after : List Entry) (named : Mention) (end : ℕ) : Type 0 where
+pub record IsFinished (src : Sections) (old new : Table) (before after : List Entry) (named : Mention) (end : ℕ) :
+    Type 0 where
   pub kept : Kept old new
   pub answered : (holder : ℕ) → end ≤ holder → IsAnswered src new holder named
   pub room : (from to : ℕ) → end ≤ from → HasRoom from to before → HasRoom from to after

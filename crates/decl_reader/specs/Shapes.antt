@@ -2,7 +2,8 @@
 use Rattle.std.specs.Prelude.{ℕ, map}
 use Rattle.go_values.specs.declared.positions.Pos.{Pos}
 use Rattle.type_terms.specs.Trees.{Text}
-use Rattle.type_terms.specs.Shapes.{FieldOf, MethodOf, TermOf, named_of, parameter_of, alias_of, pointer_of, slice_of, array_of, chan_of, map_of, func_of, struct_of, interface_of, instance_of, union_of}
+use Rattle.type_terms.specs.Shapes.{FieldOf, MethodOf, TermOf, named_of, parameter_of, alias_of, pointer_of, slice_of}
+use Rattle.type_terms.specs.Shapes.{array_of, chan_of, map_of, func_of, struct_of, interface_of, instance_of, union_of}
 use Rattle.decl_spelling.specs.Descriptors.{Flat as Shape, Param as ParamShape, Sig, no_origin}
 use Rattle.decl_reader.specs.declared.flat.params.Param.{Param}
 use Rattle.decl_reader.specs.declared.flat.params.Signature.{Signature}
@@ -10,7 +11,9 @@ use Rattle.decl_reader.specs.declared.flat.members.FieldParts.{FieldParts}
 use Rattle.decl_reader.specs.declared.flat.members.MethodParts.{MethodParts}
 use Rattle.decl_reader.specs.declared.flat.members.TermParts.{TermParts}
 use Rattle.decl_reader.specs.declared.flat.descriptors.Flat.{Flat}
-use Rattle.decl_reader.specs.declared.flat.descriptors.Flat.TheVariants.{Defined, TypeParameter, Alias, Pointer, Slice, Array, Chan, Map, Func, Struct, Interface, Instance, Union}
+use Rattle.decl_reader.specs.declared.flat.descriptors.Flat.TheVariants.{Defined, TypeParameter, Alias, Pointer, Slice}
+use Rattle.decl_reader.specs.declared.flat.descriptors.Flat.TheVariants.{Array, Chan, Map, Func, Struct, Interface}
+use Rattle.decl_reader.specs.declared.flat.descriptors.Flat.TheVariants.{Instance, Union}
 
 abbrev pub FieldShape : Type 0
 FieldShape = FieldOf Pos Text Text ℕ
@@ -25,10 +28,12 @@ abbrev pub param_shape : Param → ParamShape
 param_shape x = record { pos = x.pos; name = x.name; type = x.ty }
 
 abbrev pub sig_shape : Signature → Sig
-sig_shape x = record { params = map param_shape x.params.items; results = map param_shape x.results.items; variadic = x.variadic }
+sig_shape x =
+    record { params = map param_shape x.params.items; results = map param_shape x.results.items; variadic = x.variadic }
 
 abbrev pub field_shape : FieldParts → FieldShape
-field_shape x = record { origin = no_origin; pos = x.pos; name = x.name; type = x.ty; embedded = x.embedded; tag = x.tag }
+field_shape x =
+    record { origin = no_origin; pos = x.pos; name = x.name; type = x.ty; embedded = x.embedded; tag = x.tag }
 
 abbrev pub method_shape : MethodParts → MethodShape
 method_shape x = record { origin = no_origin; pos = x.pos; name = x.name; sig = sig_shape x.signature }

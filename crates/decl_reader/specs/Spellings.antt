@@ -1,7 +1,8 @@
 -- How values are spelled, as the code says it.
 use Rattle.std.specs.Prelude.{◌≡◌, IsTrue}
 use Rattle.wire_bytes.specs.Whole.{IsGreatestLength}
-use Rattle.decl_spelling.specs.Constants.{Spelling as SpellingShape, flag, offset, number, Kind as KindShape, spelled, floating, none}
+use Rattle.decl_spelling.specs.Constants.{Spelling as SpellingShape, flag, offset, number, Kind as KindShape, spelled}
+use Rattle.decl_spelling.specs.Constants.{floating, none}
 use Rattle.decl_reader.specs.declared.flat.values.Spelling.{Spelling}
 use Rattle.decl_reader.specs.declared.flat.values.Spelling.TheVariants.{Flag, Offset, Number}
 use Rattle.decl_reader.specs.declared.flat.values.Kind.{Kind}

@@ -1,22 +1,26 @@
 -- What the calls that read a declaration answer.
-use Rattle.std.specs.Prelude.{◌≡◌, ℕ, ◌+◌, ◌-◌, List, [], Bool, true, false, Result, Ok, Err, Option}
+use Rattle.std.specs.Prelude.{◌≡◌, ℕ, ◌+◌, ◌-◌, List, [], Bool, true, false, Result, Ok, Err, IfOk, Option}
 use Rattle.std.specs.List.{sum_by}
 use Rattle.code_tables.specs.declared.predeclared.Basic.{Basic}
 use Rattle.go_values.specs.declared.constants.Const.{Const}
 use Rattle.wire_bytes.specs.declared.fault.ByteFault.{ByteFault}
+use Rattle.wire_bytes.specs.declared.fault.ReadFault.{ReadFault}
 use Rattle.wire_bytes.specs.Reading.{place, ◌>>=◌}
 use Rattle.type_terms.specs.declared.descriptors.Node.{Node}
 use Rattle.type_terms.specs.declared.declarations.DeclNode.{DeclNode}
 use Rattle.type_terms.specs.Declarations.{Decl}
 use Rattle.type_terms.specs.Environments.{decl_of}
-use Rattle.decl_spelling.specs.Sections.{Sections}
+use Rattle.decl_spelling.specs.Sections.{Sections, Basics}
 use Rattle.decl_spelling.specs.Reading.{Ahead, list_at}
+use Rattle.decl_spelling.specs.declared.mention.Mention.{Mention}
 use Rattle.decl_spelling.specs.Tables.{Table}
+use Rattle.decl_spelling.specs.Descent.{block_at, resolve_all}
 use Rattle.decl_spelling.specs.Constants.{spelling_at, value_at}
-use Rattle.decl_spelling.specs.Declarations.{Receiver, receiver_at, resolved, fault_alone, Read}
+use Rattle.decl_spelling.specs.Declarations.{Receiver, receiver_at, resolved, fault_alone, Read, read_at}
 use Rattle.decl_reader.specs.declared.flat.declarations.DeclParts.{DeclParts}
 use Rattle.decl_reader.specs.declared.fault.DeclFault.{DeclFault}
 use Rattle.decl_reader.specs.declared.fault.DeclFault.TheVariants.{Bytes, Nodes, OutOfMemory}
+use Rattle.decl_reader.specs.Faults.{of_read}
 use Rattle.decl_reader.specs.Forms.{decl_form}
 
 -- an error that names a fault is what reading gives; want of nodes or memory says nothing
@@ -29,8 +33,13 @@ FaultIs OutOfMemory read = Unit {0}
 abbrev pub all_known : Ahead → Ahead
 all_known a = record { spot = a.spot; before = a.before; mentions = [] }
 
+-- a declaration's types start before it
+abbrev pub types_before : Sections → ℕ → List Mention → Table → Result Table ByteFault
+types_before src offset ms done = resolve_all src (block_at src offset) offset ms done
+
 -- a part of a declaration, seen by view, what is ahead of it then, and the types that are read then
-abbrev pub IsPart : {X Y : Type 0} → (X → Y) → Result X DeclFault → Ahead → Table → Result ((Y × Ahead) × Table) ByteFault → Type 0
+abbrev pub IsPart : {X Y : Type 0} → (X → Y) → Result X DeclFault → Ahead → Table
+    → Result ((Y × Ahead) × Table) ByteFault → Type 0
 IsPart view (Ok x) ahead known read = read ≡ Ok ((view x, ahead), known)
 IsPart view (Err e) ahead known read = FaultIs e read
 
@@ -43,18 +52,24 @@ methods_by src offset a done false = Ok (([], a), done)
 abbrev pub value_by : Sections → ℕ → Option Basic → Ahead → Result (Const × Ahead) ByteFault
 value_by src at basic a = spelling_at at basic >>= λ spelling. fault_alone (value_at src spelling a)
 
-abbrev pub IsValue : Result Const DeclFault → Ahead → Result (Const × Ahead) ByteFault → Type 0
+abbrev pub IsValue : Result Const ReadFault → Ahead → Result (Const × Ahead) ByteFault → Type 0
 IsValue (Ok value) ahead read = read ≡ Ok (value, ahead)
-IsValue (Err e) ahead read = FaultIs e read
+IsValue (Err e) ahead read = FaultIs (of_read e) read
 
 -- a declaration with types as numbers, what is ahead of it, and the types that it reaches
 abbrev pub IsWhole : Result DeclParts DeclFault → Ahead → Table → Result Read ByteFault → Type 0
-IsWhole (Ok parts) ahead known read = read ≡ Ok (record { form = decl_form parts; end = place ahead.spot; table = known })
+IsWhole (Ok parts) ahead known read =
+    read ≡ Ok (record { form = decl_form parts; end = place ahead.spot; table = known })
 IsWhole (Err e) ahead known read = FaultIs e read
 
 -- the bytes of the descriptors that a declaration reaches, each once, and its own
 abbrev pub reached : Sections → ℕ → Read → ℕ
 reached src offset x = sum_by (λ entry. entry.1.end - entry.0) x.table + (x.end - (src.body_at + offset))
+
+-- where a declaration is read whole, the steps are the bytes that it reaches
+abbrev pub CountsReached : {X : Type 0} → Sections → Basics → ℕ → Result X DeclFault → ℕ → ℕ → Type 0
+CountsReached src basics offset result before after =
+    IfOk result (λ _. IfOk (read_at src basics offset) (λ x. after ≡ before + reached src offset x))
 
 -- a declaration whose types are nodes
 abbrev pub ReadsDecl : Result DeclNode DeclFault → List Node → Result Decl ByteFault → Type 0

@@ -2,19 +2,19 @@
 
 ghost use Rattle.std.specs.Prelude.{◌≡◌, ◌≤◌};
 ghost use Rattle.file_parts.specs.FileParts.{IsOfFile};
-ghost use Rattle.decl_spelling.specs.Sections.{window};
+ghost use Rattle.decl_spelling.specs.Sections.{HoldsBytes, window};
 ghost use Rattle.decl_spelling.specs.Reading.{start, number_at, truth_at, text_at, path_at, pos_at, type_at};
 ghost use Rattle.decl_reader.specs.Calls.{ReadsBlock, ahead_of, sections_of};
 
-use crate::fault::DeclFault;
 use decl_spelling::{Demand, Mention};
 use file_parts::Parts;
 use go_values::{Bytes, Pos};
 use position_codec::{PrevPos, read_full};
 use std::alloc::Global;
-use wire_bytes::{ByteFault, Cursor, text_at};
+use wire_bytes::{ByteFault, Cursor, ReadFault, text_at};
 
-/// A block that is being read: what is left of it, the position before its next one, and the types that it has named so far.
+/// A block that is being read: what is left of it, the position before its next one, and the types that it has named so
+/// far.
 #[derive(Drop)]
 pub(crate) struct Block<'a> {
     pub(crate) cursor: Cursor<'a>,
@@ -28,11 +28,11 @@ impl<'a> Block<'a> {
         requires sections { IsOfFile parts.now }
         requires order { from ≤ to }
         requires inside { to ≤ parts.now.body_len }
-        ensures { ahead_of result ≡ start (window (sections_of parts.now) from to) }
+        ensures ahead { ahead_of result ≡ start (window (sections_of parts.now) from to) }
+        ensures bytes { HoldsBytes (sections_of parts.now) }
     {
-        let at = parts.body_at as usize;
         Block {
-            cursor: Cursor::new(parts.file, at + from as usize, at + to as usize),
+            cursor: parts.cursor(from, to),
             before: PrevPos::start(alloc),
             mentions: Vec::new(alloc),
         }
@@ -40,15 +40,15 @@ impl<'a> Block<'a> {
 }
 
 /// The next number.
-pub(crate) fn read_number(block: &mut Block<'_>) -> Result<u64, DeclFault>
-    ensures { ReadsBlock (λ n. n) result (ahead_of block.new) (number_at (ahead_of block.old)) }
+pub(crate) fn read_number(block: &mut Block<'_>) -> Result<u64, ReadFault>
+    ensures { ReadsBlock (λ n. n) number_at block.old result block.new }
 {
     Ok(block.cursor.uvarint()?)
 }
 
 /// The next flag.
-pub(crate) fn read_truth(block: &mut Block<'_>) -> Result<bool, DeclFault>
-    ensures { ReadsBlock (λ b. b) result (ahead_of block.new) (truth_at (ahead_of block.old)) }
+pub(crate) fn read_truth(block: &mut Block<'_>) -> Result<bool, ReadFault>
+    ensures { ReadsBlock (λ b. b) truth_at block.old result block.new }
 {
     Ok(block.cursor.flag()?)
 }
@@ -59,15 +59,15 @@ pub(crate) fn read_text(
     alloc: Global,
     parts: &Parts<'_>,
     block: &mut Block<'_>,
-) -> Result<Bytes, DeclFault>
+) -> Result<Bytes, ReadFault>
     requires { IsOfFile parts.now }
-    ensures { ReadsBlock (λ t. t) result (ahead_of block.new) (text_at (sections_of parts.now) (ahead_of block.old)) }
+    ensures { ReadsBlock (λ t. t) (text_at (sections_of parts.now)) block.old result block.new }
 {
     let at = block.cursor.place() as u64;
     let offset = read_number(block)?;
     match text_at(parts.strings(), offset) {
         Some(text) => Ok(Bytes::from_slice(alloc, text)?),
-        None => Err(DeclFault::Bytes(ByteFault::Range { at, value: offset })),
+        None => Err(ReadFault::Bytes(ByteFault::Range { at, value: offset })),
     }
 }
 
@@ -77,15 +77,15 @@ pub(crate) fn read_path(
     alloc: Global,
     parts: &Parts<'_>,
     block: &mut Block<'_>,
-) -> Result<Bytes, DeclFault>
+) -> Result<Bytes, ReadFault>
     requires { IsOfFile parts.now }
-    ensures { ReadsBlock (λ t. t) result (ahead_of block.new) (path_at (sections_of parts.now) (ahead_of block.old)) }
+    ensures { ReadsBlock (λ t. t) (path_at (sections_of parts.now)) block.old result block.new }
 {
     let at = block.cursor.place() as u64;
     let offset = read_number(block)?;
     match parts.path_at(offset) {
         Some(path) => Ok(Bytes::from_slice(alloc, path)?),
-        None => Err(DeclFault::Bytes(ByteFault::Range { at, value: offset })),
+        None => Err(ReadFault::Bytes(ByteFault::Range { at, value: offset })),
     }
 }
 
@@ -94,17 +94,17 @@ pub(crate) fn read_pos(
     alloc: Global,
     parts: &Parts<'_>,
     block: &mut Block<'_>,
-) -> Result<Pos, DeclFault>
+) -> Result<Pos, ReadFault>
     requires { IsOfFile parts.now }
-    ensures { ReadsBlock (λ p. p) result (ahead_of block.new) (pos_at (sections_of parts.now) (ahead_of block.old)) }
+    ensures { ReadsBlock (λ p. p) (pos_at (sections_of parts.now)) block.old result block.new }
 {
-    Ok(read_full(alloc, &mut block.cursor, parts, &mut block.before)?)
+    read_full(alloc, &mut block.cursor, parts, &mut block.before)
 }
 
 /// The number of a type, which is noted with what is asked of it.
 #[tactic(auto, unfolding(decl_spelling::specs::Reading::type_at))]
-pub(crate) fn read_type(block: &mut Block<'_>, asked: Demand) -> Result<u64, DeclFault>
-    ensures { ReadsBlock (λ n. n) result (ahead_of block.new) (type_at asked (ahead_of block.old)) }
+pub(crate) fn read_type(block: &mut Block<'_>, asked: Demand) -> Result<u64, ReadFault>
+    ensures { ReadsBlock (λ n. n) (type_at asked) block.old result block.new }
 {
     let at = block.cursor.place() as u64;
     let value = read_number(block)?;

@@ -21,8 +21,8 @@ pub(crate) fn basic_of(version: u8, number: u64) -> Option<Basic>
     coded_basic(number)
 }
 
-/// The predeclared type of a number. One that has none gives some type, as the definition does; those of a declaration that is read
-/// have one.
+/// The predeclared type of a number. One that has none gives some type, as the definition does; those of a declaration
+/// that is read have one.
 pub(crate) fn basic_named(version: u8, number: u64) -> Basic
     ensures { predeclared result ≡ basic_tree (basic_of version number) }
 {

@@ -59,8 +59,8 @@ pub(crate) fn node_meets(asked: Demand, node: &Node) -> bool
     }
 }
 
-/// The fault of a type that isn't what its holder asks for. It stands at the typeOff, or for a constraint that was to be an
-/// interface at the flag that says so.
+/// The fault of a type that isn't what its holder asks for. It stands at the typeOff, or for a constraint that was to
+/// be an interface at the flag that says so.
 pub(crate) fn unmet(named: Mention) -> ByteFault
     ensures { result ≡ unmet named named.asked }
 {

@@ -1,21 +1,22 @@
-//! Reading the types that a block names. The descriptors that are open stand on a list, not on the call stack, so a chain of any
-//! length is read.
+//! Reading the types that a block names. The descriptors that are open stand on a list, not on the call stack, so a
+//! chain of any length is read.
 
-ghost use Rattle.std.specs.Prelude.{◌≡◌, ◌+◌, ◌-◌, ◌<◌, ◌≤◌, List, [], ◌∷◌, Ok, Err, Some, None, length, IfOk, IfErr, OnOk, IsErrOf};
-ghost use Rattle.type_terms.specs.Arenas.{Extends};
-ghost use Rattle.decl_spelling.specs.Tables.{at};
-ghost use Rattle.decl_spelling.specs.Codes.{basic_of};
-ghost use Rattle.decl_spelling.specs.Descent.{resolve, resolve_all, named_at as renamed};
-ghost use Rattle.file_parts.specs.FileParts.{IsOfFile, body_of};
-ghost use Rattle.decl_reader.specs.Calls.{sections_of};
-ghost use Rattle.decl_spelling.specs.Sections.{HoldsBytes};
+ghost use Rattle.std.specs.Prelude.{◌≡◌, ◌+◌, ◌-◌, ◌<◌, ◌≤◌, List, [], Err, None, length, IfOk, OnOk};
 ghost use Rattle.type_terms.specs.declared.descriptors.Node.{Node};
 ghost use Rattle.type_terms.specs.Denotation.{tree};
-ghost use Rattle.decl_reader.specs.Blocks.{table_of, finished_of, IsStacked, HasRoom};
+ghost use Rattle.file_parts.specs.FileParts.{IsOfFile, body_of};
+ghost use Rattle.decl_spelling.specs.Tables.{at};
+ghost use Rattle.decl_spelling.specs.Codes.{basic_of};
+ghost use Rattle.decl_spelling.specs.Descent.{named_at as renamed};
+ghost use Rattle.decl_reader.specs.Calls.{sections_of};
+ghost use Rattle.decl_reader.specs.Blocks.{table_of, finished_of, HasRoom};
 ghost use Rattle.decl_reader.specs.Meant.{IsGenericFlat};
 ghost use Rattle.decl_reader.specs.Shapes.{flat_shape};
 ghost use Rattle.decl_reader.specs.Frames.{answered, closed, with_shape};
-ghost use Rattle.decl_reader.specs.Opens.{reads, frame_of, IsReady, Counts, IsOpen, IsBegun, IsClosed, IsFinished, Resolves, Begins, resumed, checked_basic, checked_type, checked_finished};
+ghost use Rattle.decl_reader.specs.Opens.{resolve_type, resolve_types, frame_of, IsOpen, IsBegun, IsClosed, IsFinished};
+ghost use Rattle.decl_reader.specs.Opens.{Resolves, Begins, resumed};
+ghost use Rattle.decl_reader.specs.Opens.{checked_basic, checked_type, checked_finished};
+ghost use Rattle.decl_reader.specs.Progress.{known, IsReadyFor, GoesOn};
 
 use crate::block::Block;
 use crate::codes::basic_of;
@@ -23,14 +24,15 @@ use crate::demands::{basic_meets, node_meets, out_of_range, unmet};
 use crate::fault::DeclFault;
 use crate::flat::{Flat, read_flat};
 use crate::nodes::add_flat;
-use crate::table::{Finished, Table};
-use decl_spelling::Mention;
+use crate::reading::Reading;
+use crate::table::Finished;
+use crate::type_off::TypeOff;
+use decl_spelling::{FIRST_DESCRIPTOR, Mention};
 use file_parts::Parts;
-use std::alloc::Global;
+use std::alloc::AllocError;
 use std::sync::ledger::Ledger;
-use steps::Steps;
 use type_terms::{Arena, NodeId};
-use wire_bytes::ByteFault;
+use wire_bytes::{ByteFault, ReadFault};
 
 /// A descriptor that is open: its own bytes were read, and some of its types are still to be known.
 #[derive(Drop)]
@@ -45,131 +47,204 @@ pub(crate) struct Open {
     named: Mention,
 }
 
-/// Reads the types that a block names, for a block that starts at `holder` in the data section.
-pub(crate) fn read_types<L: Ledger>(
-    alloc: Global,
-    parts: &Parts<'_>,
-    holder: u64,
-    mentions: &[Mention],
-    table: &mut Table,
-    arena: &mut Arena,
-    steps: &mut Steps<L>,
-) -> Result<(), DeclFault>
-    requires sections { IsOfFile parts.now }
-    requires bytes { HoldsBytes (sections_of parts.now) }
-    requires ready { IsReady (length (body_of parts.now)) (length arena.old.nodes) table.old.blocks.entries }
-    requires within { holder ≤ parts.now.body_len }
-    ensures exact { Resolves result (table_of arena.new.nodes table.new.blocks.entries) (resolve_all (sections_of parts.now) (reads (sections_of parts.now)) holder mentions.now (table_of arena.old.nodes table.old.blocks.entries)) }
-    ensures extends { Extends arena.old arena.new }
-    ensures ready { IsReady (length (body_of parts.now)) (length arena.new.nodes) table.new.blocks.entries }
-    ensures counted { Counts steps.old table.old.blocks.entries steps.new table.new.blocks.entries }
-    ensures full { IsErrOf result DeclFault.Nodes → length arena.new.nodes ≡ arena.new.limit }
-{
-    for mention in mentions {
-        read_type(alloc, parts, holder, *mention, table, arena, steps)?;
+impl<L: Ledger> Reading<'_, L> {
+    /// Reads the types that a block names, for a block that starts at `holder` in the data section.
+    pub(crate) fn read_types(
+        &mut self,
+        parts: &Parts<'_>,
+        holder: u64,
+        mentions: &[Mention],
+    ) -> Result<(), DeclFault>
+        requires sections { IsOfFile parts.now }
+        requires ready { IsReadyFor parts.now self.old }
+        requires within { holder ≤ parts.now.body_len }
+        ensures exact { Resolves result (known self.new)
+            (resolve_types (sections_of parts.now) holder mentions.now (known self.old)) }
+        ensures goes_on { GoesOn parts.now self.old result self.new }
+    {
+        for mention in mentions {
+            self.read_type(parts, holder, *mention)?;
+        }
+        Ok(())
     }
-    Ok(())
-}
 
-/// Reads the type of a mention, with all that it reaches.
-fn read_type<L: Ledger>(
-    alloc: Global,
-    parts: &Parts<'_>,
-    holder: u64,
-    named: Mention,
-    table: &mut Table,
-    arena: &mut Arena,
-    steps: &mut Steps<L>,
-) -> Result<(), DeclFault>
-    requires sections { IsOfFile parts.now }
-    requires bytes { HoldsBytes (sections_of parts.now) }
-    requires ready { IsReady (length (body_of parts.now)) (length arena.old.nodes) table.old.blocks.entries }
-    requires within { holder ≤ parts.now.body_len }
-    ensures exact { Resolves result (table_of arena.new.nodes table.new.blocks.entries) (resolve (sections_of parts.now) (reads (sections_of parts.now)) holder named (table_of arena.old.nodes table.old.blocks.entries)) }
-    ensures extends { Extends arena.old arena.new }
-    ensures ready { IsReady (length (body_of parts.now)) (length arena.new.nodes) table.new.blocks.entries }
-    ensures counted { Counts steps.old table.old.blocks.entries steps.new table.new.blocks.entries }
-    ensures full { IsErrOf result DeclFault.Nodes → length arena.new.nodes ≡ arena.new.limit }
-{
-    match begin(alloc, parts, holder, named, table, arena)? {
-        Some(first) => read_open(alloc, parts, first, table, arena, steps),
-        None => Ok(()),
+    /// Reads the type of a mention, with all that it reaches.
+    fn read_type(&mut self, parts: &Parts<'_>, holder: u64, named: Mention) -> Result<(), DeclFault>
+        requires sections { IsOfFile parts.now }
+        requires ready { IsReadyFor parts.now self.old }
+        requires within { holder ≤ parts.now.body_len }
+        ensures exact { Resolves result (known self.new)
+            (resolve_type (sections_of parts.now) holder named (known self.old)) }
+        ensures goes_on { GoesOn parts.now self.old result self.new }
+    {
+        match self.begin(parts, holder, named)? {
+            Some(first) => self.read_open(parts, first),
+            None => Ok(()),
+        }
     }
-}
 
-/// Reads an open descriptor to its end, with all that it reaches.
-fn read_open<L: Ledger>(
-    alloc: Global,
-    parts: &Parts<'_>,
-    first: Open,
-    table: &mut Table,
-    arena: &mut Arena,
-    steps: &mut Steps<L>,
-) -> Result<(), DeclFault>
-    requires sections { IsOfFile parts.now }
-    requires bytes { HoldsBytes (sections_of parts.now) }
-    requires ready { IsReady (length (body_of parts.now)) (length arena.old.nodes) table.old.blocks.entries }
-    requires first { IsOpen (sections_of parts.now) (table_of arena.old.nodes table.old.blocks.entries) table.old.blocks.entries first }
-    ensures exact { Resolves result (table_of arena.new.nodes table.new.blocks.entries) (resumed (sections_of parts.now) first [] (table_of arena.old.nodes table.old.blocks.entries)) }
-    ensures extends { Extends arena.old arena.new }
-    ensures ready { IsReady (length (body_of parts.now)) (length arena.new.nodes) table.new.blocks.entries }
-    ensures counted { Counts steps.old table.old.blocks.entries steps.new table.new.blocks.entries }
-    ensures full { IsErrOf result DeclFault.Nodes → length arena.new.nodes ≡ arena.new.limit }
-{
-    let mut holders: Vec<Open> = Vec::new(alloc);
-    let mut current = first;
-    loop {
-        if current.known < current.mentions.len() {
-            let named = current.mentions[current.known];
-            match begin(alloc, parts, current.start, named, table, arena)? {
-                None => current.known += 1,
-                Some(inner) => {
-                    holders.push(current)?;
-                    current = inner;
+    /// Reads an open descriptor to its end, with all that it reaches.
+    fn read_open(&mut self, parts: &Parts<'_>, first: Open) -> Result<(), DeclFault>
+        requires sections { IsOfFile parts.now }
+        requires ready { IsReadyFor parts.now self.old }
+        requires first { IsOpen (sections_of parts.now) (known self.old) self.old.table.now first }
+        ensures exact { Resolves result (known self.new) (resumed (sections_of parts.now) first [] (known self.old)) }
+        ensures goes_on { GoesOn parts.now self.old result self.new }
+    {
+        let mut holders: Vec<Open> = Vec::new(self.alloc);
+        let mut current = first;
+        loop {
+            if current.known < current.mentions.len() {
+                let named = current.mentions[current.known];
+                match self.begin(parts, current.start, named)? {
+                    None => current.known += 1,
+                    Some(inner) => {
+                        holders.push(current)?;
+                        current = inner;
+                    }
                 }
-            }
-        } else {
-            close(alloc, parts, current, table, arena, steps)?;
-            match holders.pop() {
-                None => return Ok(()),
-                Some(holder) => {
-                    current = holder;
-                    current.known += 1;
+            } else {
+                self.close(parts, current)?;
+                match holders.pop() {
+                    None => return Ok(()),
+                    Some(holder) => {
+                        current = holder;
+                        current.known += 1;
+                    }
                 }
             }
         }
     }
-}
 
-/// What a mention needs: nothing more where its type is known, or the descriptor that it names, which is opened.
-fn begin(
-    alloc: Global,
-    parts: &Parts<'_>,
-    holder: u64,
-    named: Mention,
-    table: &Table,
-    arena: &Arena,
-) -> Result<Option<Open>, DeclFault>
-    requires sections { IsOfFile parts.now }
-    requires bytes { HoldsBytes (sections_of parts.now) }
-    requires ready { IsReady (length (body_of parts.now)) (length arena.now.nodes) table.now.blocks.entries }
-    requires within { holder ≤ parts.now.body_len }
-    ensures { Begins (sections_of parts.now) (table_of arena.now.nodes table.now.blocks.entries) table.now.blocks.entries holder named result }
-{
-    if named.value < 32 {
-        check_basic(parts.version, named)?;
-        return Ok(None);
-    }
-    let start = named.value - 32;
-    if start >= holder {
-        return Err(DeclFault::Bytes(out_of_range(named)));
-    }
-    match table.at(start) {
-        Some(finished) => {
-            check_finished(holder, named, finished, arena)?;
-            Ok(None)
+    /// What a mention needs: nothing more where its type is known, or the descriptor that it names, which is opened.
+    fn begin(
+        &self,
+        parts: &Parts<'_>,
+        holder: u64,
+        named: Mention,
+    ) -> Result<Option<Open>, ReadFault>
+        requires sections { IsOfFile parts.now }
+        requires ready { IsReadyFor parts.now self.now }
+        requires within { holder ≤ parts.now.body_len }
+        ensures { Begins (sections_of parts.now) (known self.now) self.now.table.now holder named result }
+    {
+        match TypeOff::new(named.value) {
+            TypeOff::Basic(_) => {
+                check_basic(parts.version, named)?;
+                Ok(None)
+            }
+            TypeOff::At(start) if start < holder => self.begin_at(parts, holder, named, start),
+            TypeOff::At(_) => Err(ReadFault::Bytes(out_of_range(named))),
         }
-        None => Ok(Some(open_at(alloc, parts, holder, named, table)?)),
+    }
+
+    /// The same of a mention that names a descriptor before its holder.
+    fn begin_at(
+        &self,
+        parts: &Parts<'_>,
+        holder: u64,
+        named: Mention,
+        start: u64,
+    ) -> Result<Option<Open>, ReadFault>
+        requires sections { IsOfFile parts.now }
+        requires ready { IsReadyFor parts.now self.now }
+        requires its_start { named.value ≡ FIRST_DESCRIPTOR + start }
+        requires before { start < holder }
+        requires within { holder ≤ parts.now.body_len }
+        ensures { Begins (sections_of parts.now) (known self.now) self.now.table.now holder named result }
+    {
+        match self.table.at(start) {
+            Some(finished) => {
+                check_finished(holder, named, finished, self.arena)?;
+                Ok(None)
+            }
+            None => Ok(Some(self.open_at(parts, holder, named, start)?)),
+        }
+    }
+
+    /// Reads the descriptor's own bytes, up to its holder or to a descriptor that was read before.
+    fn open_at(
+        &self,
+        parts: &Parts<'_>,
+        holder: u64,
+        named: Mention,
+        start: u64,
+    ) -> Result<Open, AllocError>
+        requires sections { IsOfFile parts.now }
+        requires ready { IsReadyFor parts.now self.now }
+        requires its_start { named.value ≡ FIRST_DESCRIPTOR + start }
+        requires before { start < holder }
+        requires within { holder ≤ parts.now.body_len }
+        requires new { at (known self.now) start ≡ None }
+        ensures { IfOk result (IsBegun (sections_of parts.now) (known self.now) self.now.table.now holder named) }
+    {
+        let mut block = Block::new(self.alloc, parts, start, self.table.free_to(start, holder));
+        let own = match read_flat(self.alloc, parts, &mut block) {
+            Ok(flat) => Ok((flat, block.cursor.place() as u64 - parts.body_at)),
+            Err(ReadFault::Bytes(fault)) => Err(fault),
+            Err(ReadFault::OutOfMemory) => return Err(AllocError),
+        };
+        Ok(Open {
+            start,
+            own,
+            mentions: block.mentions,
+            known: 0,
+            named,
+        })
+    }
+
+    /// A descriptor whose types are known joins the finished ones, and is what its holder asks for.
+    fn close(&mut self, parts: &Parts<'_>, block: Open) -> Result<(), DeclFault>
+        requires ready { IsReadyFor parts.now self.old }
+        requires is_open { IsOpen (sections_of parts.now) (known self.old) self.old.table.now block }
+        requires all { block.known ≡ length block.mentions.items }
+        ensures exact { Resolves result (known self.new) (closed parts.now.version (frame_of block) (known self.old)) }
+        ensures closed { OnOk result
+            (IsClosed (sections_of parts.now) (known self.old) (known self.new) self.old.table.now self.new.table.now
+            block) }
+        ensures goes_on { GoesOn parts.now self.old result self.new }
+    {
+        let Open {
+            start,
+            own,
+            named,
+            ..
+        } = block;
+        match own {
+            Ok((flat, end)) => self.finish(parts, start, named, flat, end),
+            Err(fault) => Err(DeclFault::Bytes(named_at(named, fault))),
+        }
+    }
+
+    /// What a descriptor spells joins the finished ones, and is what its holder asks for. One step is one byte that was
+    /// read.
+    fn finish(
+        &mut self,
+        parts: &Parts<'_>,
+        start: u64,
+        named: Mention,
+        flat: Flat,
+        end: u64,
+    ) -> Result<(), DeclFault>
+        requires ready { IsReadyFor parts.now self.old }
+        requires generic { IsGenericFlat parts.now.version (known self.old) (flat_shape flat) }
+        requires its_start { named.value ≡ FIRST_DESCRIPTOR + start }
+        requires some { start < end }
+        requires inside { end ≤ length (body_of parts.now) }
+        requires room { HasRoom start end self.old.table.now }
+        ensures exact { Resolves result (known self.new)
+            (answered parts.now.version named
+            (with_shape parts.now.version start (flat_shape flat, end) (known self.old))) }
+        ensures finished { OnOk result
+            (IsFinished (sections_of parts.now) (known self.old) (known self.new) self.old.table.now self.new.table.now
+            named end) }
+        ensures goes_on { GoesOn parts.now self.old result self.new }
+    {
+        let node = add_flat(self.alloc, parts.version, flat, self.table, self.arena)?;
+        self.table.insert(start, Finished { end, node })?;
+        self.steps.add(end - start);
+        check_node(named, node, self.arena)?;
+        Ok(())
     }
 }
 
@@ -209,105 +284,6 @@ fn check_node(named: Mention, node: NodeId, arena: &Arena) -> Result<(), ByteFau
     } else {
         Err(unmet(named))
     }
-}
-
-/// Reads the descriptor's own bytes, up to its holder or to a descriptor that was read before.
-fn open_at(
-    alloc: Global,
-    parts: &Parts<'_>,
-    holder: u64,
-    named: Mention,
-    table: &Table,
-) -> Result<Open, DeclFault>
-    requires sections { IsOfFile parts.now }
-    requires bytes { HoldsBytes (sections_of parts.now) }
-    requires stacked { IsStacked table.now.blocks.entries }
-    requires large { 32 ≤ named.value }
-    requires before { named.value - 32 < holder }
-    requires within { holder ≤ parts.now.body_len }
-    ensures begun { IfOk result (λ o. (nodes : List Node) → at (table_of nodes table.now.blocks.entries) (named.value - 32) ≡ None → IsBegun (sections_of parts.now) (table_of nodes table.now.blocks.entries) table.now.blocks.entries holder named o) }
-    ensures only_memory { IfErr result (λ e. e ≡ DeclFault.OutOfMemory) }
-{
-    let start = named.value - 32;
-    let mut block = Block::new(alloc, parts, start, table.free_to(start, holder));
-    let own = match read_flat(alloc, parts, &mut block) {
-        Ok(flat) => Ok((flat, block.cursor.place() as u64 - parts.body_at)),
-        Err(DeclFault::Bytes(fault)) => Err(fault),
-        // Reading bytes adds no node.
-        Err(DeclFault::Nodes | DeclFault::OutOfMemory) => return Err(DeclFault::OutOfMemory),
-    };
-    Ok(Open {
-        start,
-        own,
-        mentions: block.mentions,
-        known: 0,
-        named,
-    })
-}
-
-/// A descriptor whose types are known joins the finished ones, and is what its holder asks for.
-fn close<L: Ledger>(
-    alloc: Global,
-    parts: &Parts<'_>,
-    block: Open,
-    table: &mut Table,
-    arena: &mut Arena,
-    steps: &mut Steps<L>,
-) -> Result<(), DeclFault>
-    requires sections { IsOfFile parts.now }
-    requires bytes { HoldsBytes (sections_of parts.now) }
-    requires ready { IsReady (length (body_of parts.now)) (length arena.old.nodes) table.old.blocks.entries }
-    requires is_open { IsOpen (sections_of parts.now) (table_of arena.old.nodes table.old.blocks.entries) table.old.blocks.entries block }
-    requires all { block.known ≡ length block.mentions.items }
-    ensures exact { Resolves result (table_of arena.new.nodes table.new.blocks.entries) (closed parts.now.version (frame_of block) (table_of arena.old.nodes table.old.blocks.entries)) }
-    ensures closed { OnOk result (IsClosed (sections_of parts.now) (table_of arena.old.nodes table.old.blocks.entries) (table_of arena.new.nodes table.new.blocks.entries) table.old.blocks.entries table.new.blocks.entries block) }
-    ensures extends { Extends arena.old arena.new }
-    ensures ready { IsReady (length (body_of parts.now)) (length arena.new.nodes) table.new.blocks.entries }
-    ensures counted { Counts steps.old table.old.blocks.entries steps.new table.new.blocks.entries }
-    ensures full { IsErrOf result DeclFault.Nodes → length arena.new.nodes ≡ arena.new.limit }
-{
-    let Open {
-        start,
-        own,
-        named,
-        ..
-    } = block;
-    match own {
-        Ok((flat, end)) => finish(alloc, parts, start, named, flat, end, table, arena, steps),
-        Err(fault) => Err(DeclFault::Bytes(named_at(named, fault))),
-    }
-}
-
-/// What a descriptor spells joins the finished ones, and is what its holder asks for. One step is one byte that was read.
-fn finish<L: Ledger>(
-    alloc: Global,
-    parts: &Parts<'_>,
-    start: u64,
-    named: Mention,
-    flat: Flat,
-    end: u64,
-    table: &mut Table,
-    arena: &mut Arena,
-    steps: &mut Steps<L>,
-) -> Result<(), DeclFault>
-    requires ready { IsReady (length (body_of parts.now)) (length arena.old.nodes) table.old.blocks.entries }
-    requires generic { IsGenericFlat parts.now.version (table_of arena.old.nodes table.old.blocks.entries) (flat_shape flat) }
-    requires its_start { named.value ≡ 32 + start }
-    requires some { start < end }
-    requires inside { end ≤ length (body_of parts.now) }
-    requires room { HasRoom start end table.old.blocks.entries }
-    ensures exact { Resolves result (table_of arena.new.nodes table.new.blocks.entries) (answered parts.now.version named (with_shape parts.now.version start (flat_shape flat, end) (table_of arena.old.nodes table.old.blocks.entries))) }
-    ensures finished { OnOk result (IsFinished (sections_of parts.now) (table_of arena.old.nodes table.old.blocks.entries) (table_of arena.new.nodes table.new.blocks.entries) table.old.blocks.entries table.new.blocks.entries named end) }
-    ensures extends { Extends arena.old arena.new }
-    ensures ready { IsReady (length (body_of parts.now)) (length arena.new.nodes) table.new.blocks.entries }
-    ensures counted { Counts steps.old table.old.blocks.entries steps.new table.new.blocks.entries }
-    ensures full { IsErrOf result DeclFault.Nodes → length arena.new.nodes ≡ arena.new.limit }
-{
-    let node = add_flat(alloc, parts.version, flat, table, arena)?;
-    table.insert(start, Finished { end, node })?;
-    steps.add(end - start);
-    check_node(named, node, arena)?;
-    Ok(())
 }
 
 /// A descriptor that runs into what isn't its own is out of range where it is named.

@@ -1,14 +1,18 @@
 //! The head of a declaration of a type: as much of it as leads on to its type's name.
 
-ghost use Rattle.std.specs.Prelude.{◌≡◌, ◌≤◌, ◌<◌, ◌-◌, ℕ, drop, get_or, option_map, IfSome, IfNone};
+ghost use Rattle.std.specs.Prelude.{◌≡◌, ◌≤◌, ◌<◌, ◌-◌, ℕ, drop, option_map, IfSome, IfNone};
 ghost use Rattle.file_parts.specs.FileParts.{IsOfFile};
-ghost use Rattle.decl_spelling.specs.Sections.{Sections};
-ghost use Rattle.decl_spelling.specs.Heads.{Lead, IsHead, find_byte, find_number, find_signed, find_text, pass_file, pass_line, pass_position, pass_times, pass_numbers, find_name, name_by, name_at, find_base, type_by, lead_at, lead_of, pass_tparams, head_lead};
+ghost use Rattle.decl_spelling.specs.Sections.{Sections, HoldsBytes};
+ghost use Rattle.decl_spelling.specs.Heads.{Lead, IsHead, find_byte, find_number, find_signed, find_text, pass_file};
+ghost use Rattle.decl_spelling.specs.Heads.{pass_line, pass_position, pass_times, pass_numbers, find_name, name_by};
+ghost use Rattle.decl_spelling.specs.Heads.{name_at, find_base, base_of, type_by, lead_at, lead_of, pass_tparams};
+ghost use Rattle.decl_spelling.specs.Heads.{head_lead};
 ghost use Rattle.position_codec.specs.Place.{is_odd};
 ghost use Rattle.decl_reader.specs.Calls.{sections_of};
 ghost use Rattle.decl_reader.specs.Leads.{Finds, Passes, lead};
 
 use crate::codes::{basic_of, decl_tag_of, type_tag_of};
+use crate::type_off::TypeOff;
 use code_tables::{Basic, DeclTag, TypeTag};
 use file_parts::Parts;
 use wire_bytes::{Cursor, text_at};
@@ -22,17 +26,17 @@ pub enum Head<'a> {
     Link { path: &'a [u8], name: &'a [u8] },
 }
 
-/// Where the declaration at an offset of the data section of a full file or a bundle leads: a defined type by its underlying
-/// type, and an alias by its right side. Of what stands before that type only numbers and texts are looked at, and of a descriptor
-/// only a name. The path of a link need not be one of the index. It is None where no declaration of a type stands there as far as
-/// its type, and where that type is another one. It takes no memory. docs/FORMAT.md has the rule, "Where a name leads".
+/// Where the declaration at an offset of the data section of a full file or a bundle leads: a defined type by its
+/// underlying type, and an alias by its right side. Of what stands before that type only numbers and texts are looked
+/// at, and of a descriptor only a name. The path of a link need not be one of the index. It is None where no
+/// declaration of a type stands there as far as its type, and where that type is another one. It takes no memory.
+/// docs/FORMAT.md has the rule, "Where a name leads".
 pub fn read_head<'a>(parts: &Parts<'a>, offset: u64) -> Option<Head<'a>>
     requires { IsOfFile parts.now }
     ensures found { IfSome result (λ head. IsHead (sections_of parts.now) offset (lead head)) }
     ensures none { IfNone result ((lead : Lead) → IsHead (sections_of parts.now) offset lead → ⊥) }
     ensures exact { option_map lead result ≡ head_lead (sections_of parts.now) offset }
 {
-    are_bytes(parts.file);
     lead_from(parts, offset)
 }
 
@@ -41,15 +45,11 @@ pub fn one_head()
     ensures { (src : Sections) (start : ℕ) (a b : Lead) → IsHead src start a → IsHead src start b → a ≡ b }
 {}
 
-/// Tells a proof what the type of a slice says, which it doesn't know of a slice in a struct behind a reference.
-pub(crate) fn are_bytes(bytes: &[u8])
-    ensures { (i : ℕ) → get_or bytes.now i 0 < 256 }
-{}
-
 #[tactic(auto, unfolding(decl_spelling::specs::Heads::head_lead))]
 fn lead_from<'a>(parts: &Parts<'a>, offset: u64) -> Option<Head<'a>>
     requires { IsOfFile parts.now }
-    ensures { option_map lead result ≡ head_lead (sections_of parts.now) offset }
+    ensures exact { option_map lead result ≡ head_lead (sections_of parts.now) offset }
+    ensures bytes { HoldsBytes (sections_of parts.now) }
 {
     let mut cursor = cursor_at(parts, offset);
     let letter = find_byte(&mut cursor)?;
@@ -63,15 +63,10 @@ fn lead_from<'a>(parts: &Parts<'a>, offset: u64) -> Option<Head<'a>>
 /// What is left of the data section at an offset.
 fn cursor_at<'a>(parts: &Parts<'a>, offset: u64) -> Cursor<'a>
     requires { IsOfFile parts.now }
-    ensures { result.left ≡ drop offset (sections_of parts.now).body }
+    ensures left { result.left ≡ drop offset (sections_of parts.now).body }
+    ensures bytes { HoldsBytes (sections_of parts.now) }
 {
-    let at = parts.body_at as usize;
-    let end = at + parts.body_len as usize;
-    if offset < parts.body_len {
-        Cursor::new(parts.file, at + offset as usize, end)
-    } else {
-        Cursor::new(parts.file, end, end)
-    }
+    parts.cursor(offset.min(parts.body_len), parts.body_len)
 }
 
 fn find_byte(cursor: &mut Cursor<'_>) -> Option<u8>
@@ -180,11 +175,10 @@ fn lead_of<'a>(parts: &Parts<'a>, number: u64) -> Option<Head<'a>>
     requires { IsOfFile parts.now }
     ensures { option_map lead result ≡ lead_of (sections_of parts.now) number }
 {
-    if number < 32 {
-        let basic = basic_of(parts.version, number)?;
-        return Some(Head::Known(basic));
+    match TypeOff::new(number) {
+        TypeOff::Basic(code) => Some(Head::Known(basic_of(parts.version, code)?)),
+        TypeOff::At(offset) => lead_at(parts, offset),
     }
-    lead_at(parts, number - 32)
 }
 
 /// Where the descriptor at an offset leads: by its name, or by that of its generic type.
@@ -211,11 +205,19 @@ fn find_base<'a>(parts: &Parts<'a>, cursor: &mut Cursor<'_>) -> Option<Head<'a>>
 {
     pass_position(parts.strings(), cursor)?;
     pass_numbers(cursor)?;
-    let base = find_number(cursor)?;
-    if base < 32 {
-        return None;
+    let number = find_number(cursor)?;
+    base_of(parts, number)
+}
+
+/// The name that is the base of an instance, by its typeOff.
+fn base_of<'a>(parts: &Parts<'a>, number: u64) -> Option<Head<'a>>
+    requires { IsOfFile parts.now }
+    ensures { option_map lead result ≡ base_of (sections_of parts.now) number }
+{
+    match TypeOff::new(number) {
+        TypeOff::Basic(_) => None,
+        TypeOff::At(offset) => name_at(parts, offset),
     }
-    name_at(parts, base - 32)
 }
 
 /// The name that is the descriptor at an offset.

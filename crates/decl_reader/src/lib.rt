@@ -13,7 +13,9 @@ mod fault;
 mod flat;
 mod heads;
 mod nodes;
+mod reading;
 mod table;
+mod type_off;
 
 pub use basics::Basics;
 pub use declaration::read_decl;

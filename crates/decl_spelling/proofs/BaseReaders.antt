@@ -22,9 +22,10 @@ use Rattle.decl_spelling.specs.declared.mention.Demand.{Demand}
 use Rattle.decl_spelling.specs.Sections.{Sections}
 use Rattle.decl_spelling.specs.Reading.{Ahead, Stopped, onto, plain, placed, number_at, truth_at, text_at, path_at, pos_at, type_at}
 use Rattle.decl_spelling.specs.Grammar.{Here, IsNumber, IsTruth, IsText, IsPath, IsPos}
-use Rattle.decl_spelling.proofs.Took.{unplaced, Fits}
+use Rattle.decl_spelling.specs.Asks.{unplaced}
+use Rattle.decl_spelling.proofs.Took.{Fits}
 use Rattle.decl_spelling.proofs.Readers.{Answered, Reads, nothing, give, give_reads, judged_reads}
-use Rattle.decl_spelling.proofs.Taken.{flag_takes, flag_again, position_takes}
+use Rattle.decl_spelling.proofs.ValueTakes.{flag_takes, flag_again, position_takes}
 
 -- what stands in front of a window's bytes and of what follows the window, if it doesn't take from what follows
 split_tail : (front after left tail : List ℕ) → left ++ tail ≡ front ++ after → length tail ≤ length after → (rest : List ℕ) × (after ≡ rest ++ tail) × (left ≡ front ++ rest)

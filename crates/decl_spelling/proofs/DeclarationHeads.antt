@@ -14,10 +14,11 @@ use Rattle.decl_spelling.specs.Descent.{meets, is_parameter, is_interface}
 use Rattle.decl_spelling.specs.Declarations.{FlatForm, Head, whole, of_type, of_constant, constraint_demand, has_methods}
 use Rattle.decl_spelling.specs.Grammar.{Here}
 use Rattle.decl_spelling.specs.Spelling.{Block, Known, Names, KnownForm, numbers, number_of, same_pos, same_text, numbered, numbered_receiver, IsMethods, IsValue, IsGenericList, IsRightSide, IsForm, kind_of_decl}
-use Rattle.decl_spelling.proofs.Took.{asking, AreTParams, IsHeadParts, kind_of_head, right_demand, head_asks}
-use Rattle.decl_spelling.proofs.AskedTypes.{IsNamed, asking_named, any_named}
+use Rattle.decl_spelling.specs.Asks.{asking}
+use Rattle.decl_spelling.proofs.Took.{AreTParams, IsHeadParts, kind_of_head, right_demand, head_asks}
+use Rattle.decl_spelling.proofs.AskLemmas.{IsNamed, asking_named, any_named}
 use Rattle.decl_spelling.proofs.Forms.{generic_same}
-use Rattle.decl_spelling.proofs.Elementwise.{all_both}
+use Rattle.decl_spelling.proofs.MapLemmas.{all_both}
 
 -- by its typeOffs
 abbrev pub flat_form : KnownForm → FlatForm

@@ -18,7 +18,7 @@ use Rattle.decl_spelling.specs.Codes.{type_tag_of, dir_of}
 use Rattle.decl_spelling.specs.Reading.{number_at, text_at, path_at, pos_at, type_at, list_at, some_at}
 use Rattle.decl_spelling.specs.Descriptors.{Flat, Sig, sig_at, field_at, method_at, embedded_at, term_at, qualified_at, element_at, array_at, chan_at, map_at, func_at, struct_at, interface_at, instance_at, union_at, flat_by, flat_at}
 use Rattle.decl_spelling.specs.Grammar.{Here, IsNumber, IsText, IsPath, IsPos, IsList, IsSig, IsField, IsMethod, IsEmbedded, IsTerm, IsQualified, dir_number, IsParts, tag_of, IsDescriptor}
-use Rattle.decl_spelling.proofs.Took.{Ask, shape_asks}
+use Rattle.decl_spelling.specs.Asks.{Ask, shape_asks}
 use Rattle.decl_spelling.proofs.Readers.{Reads, nothing, one_reads, two_reads, judged_reads, tested_reads}
 use Rattle.decl_spelling.proofs.ReaderSteps.{three_reads}
 use Rattle.decl_spelling.proofs.BaseReaders.{number_reads, text_reads, path_reads, pos_reads, type_reads}

@@ -17,7 +17,8 @@ use Rattle.decl_spelling.specs.Constants.{Spelling, value_at}
 use Rattle.decl_spelling.specs.Declarations.{Receiver, Head, head_at, receiver_at}
 use Rattle.decl_spelling.specs.Grammar.{Here, IsList, IsDescriptor}
 use Rattle.decl_spelling.specs.Spelling.{IsReceiver}
-use Rattle.decl_spelling.proofs.Took.{Ask, ask_of, asking, seen_from, Fits, Went, Took, Few, Again, flat_types, shape_asks, IsHead, head_asks, unplaced_head, IsSpelling, IsValueOf}
+use Rattle.decl_spelling.specs.Asks.{Ask, ask_of, asking, flat_types, shape_asks}
+use Rattle.decl_spelling.proofs.Took.{seen_from, Fits, Went, Took, Few, Again, IsHead, head_asks, unplaced_head, IsSpelling, IsValueOf}
 use Rattle.decl_spelling.proofs.Readers.{took, few, nothing}
 use Rattle.decl_spelling.proofs.DescriptorReaders.{flat_reads}
 use Rattle.decl_spelling.proofs.HeadReaders.{head_answers, types_of_receiver, receivers_reads}

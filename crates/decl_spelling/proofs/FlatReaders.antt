@@ -12,7 +12,7 @@ use Rattle.decl_spelling.specs.Sections.{Sections}
 use Rattle.decl_spelling.specs.Reading.{truth_at, text_at, pos_at, type_at, list_at}
 use Rattle.decl_spelling.specs.Descriptors.{Param, Sig, param_at, variadic_at, sig_at, no_origin, field_at, method_at, embedded_at, term_at}
 use Rattle.decl_spelling.specs.Grammar.{IsNumber, IsTruth, IsText, IsPos, IsList, IsParam, IsVariadic, IsSig, IsField, IsMethod, IsEmbedded, IsTerm}
-use Rattle.decl_spelling.proofs.Took.{Ask, asking}
+use Rattle.decl_spelling.specs.Asks.{Ask, asking}
 use Rattle.decl_spelling.proofs.Readers.{Reads, nothing, give_reads, as_reads, two_reads, bind_reads}
 use Rattle.decl_spelling.proofs.ReaderSteps.{three_reads, five_reads}
 use Rattle.decl_spelling.proofs.BaseReaders.{truth_reads, text_reads, pos_reads, type_reads}

@@ -18,10 +18,11 @@ use Rattle.decl_spelling.specs.Descent.{meets, is_parameter, is_interface}
 use Rattle.decl_spelling.specs.Declarations.{FlatForm, Receiver, whole, constraint_demand}
 use Rattle.decl_spelling.specs.Grammar.{Here, IsNumber, IsList, IsSig}
 use Rattle.decl_spelling.specs.Spelling.{Known, KnownForm, numbers, number_of, same_pos, same_text, numbered, numbered_receiver, IsGenericList, IsRightSide, IsForm, generic_or, kind_of_decl}
-use Rattle.decl_spelling.proofs.Took.{Ask, asking, AreTParams, IsHeadParts, kind_of_head, right_demand, head_asks}
-use Rattle.decl_spelling.proofs.Retyped.{sig_twice, sig_same, receiver_twice, receiver_same}
-use Rattle.decl_spelling.proofs.AskedTypes.{all_asking}
-use Rattle.decl_spelling.proofs.Elementwise.{map_twice, map_same, all_map, all_unmap}
+use Rattle.decl_spelling.specs.Asks.{Ask, asking}
+use Rattle.decl_spelling.proofs.Took.{AreTParams, IsHeadParts, kind_of_head, right_demand, head_asks}
+use Rattle.decl_spelling.proofs.RetypeLemmas.{sig_twice, sig_same, receiver_twice, receiver_same}
+use Rattle.decl_spelling.proofs.AskLemmas.{all_asking}
+use Rattle.decl_spelling.proofs.MapLemmas.{map_twice, map_same, all_map, all_unmap}
 
 -- ---- the types of a whole form, and what is asked of them
 

@@ -22,7 +22,8 @@ use Rattle.decl_spelling.specs.Descriptors.{Param, Sig, param_at, sig_at}
 use Rattle.decl_spelling.specs.Declarations.{Receiver, Head, whole, of_type, of_constant, tparams_at, var_at, func_decl_at, generic_func_at, constant_at, defined_at, generic_defined_at, alias_at, generic_alias_at, constraint_demand, parameter_at, head_by, head_at, receiver_at}
 use Rattle.decl_spelling.specs.Grammar.{Here, IsNumber, IsTruth, IsText, IsPos, IsList, IsParam, IsSig}
 use Rattle.decl_spelling.specs.Spelling.{IsReceiver}
-use Rattle.decl_spelling.proofs.Took.{Ask, asking, unplaced, seen_from, Fits, Again, IsHeadParts, kind_of_head, IsHead, head_asks, unplaced_head}
+use Rattle.decl_spelling.specs.Asks.{Ask, asking, unplaced}
+use Rattle.decl_spelling.proofs.Took.{seen_from, Fits, Again, IsHeadParts, kind_of_head, IsHead, head_asks, unplaced_head}
 use Rattle.decl_spelling.proofs.Readers.{went_nowhere, went_on, Answered, Reads, nothing, ask_reads, then_answers, judged_answers, onward_answers, two_reads}
 use Rattle.decl_spelling.proofs.ReaderSteps.{three_reads, three_reads_where, four_reads}
 use Rattle.decl_spelling.proofs.BaseReaders.{plain_reads, number_reads, truth_reads, text_reads, pos_reads, type_reads}

@@ -17,15 +17,16 @@ use Rattle.decl_spelling.specs.Constants.{basic_type, spelling_at, value_at}
 use Rattle.decl_spelling.specs.Declarations.{FlatForm, Receiver, Head, whole, of_type, of_constant, head_at, receiver_at, resolved, has_methods, Read, read, methods_of, after_type, fault_alone, after_constant, after_head, read_at}
 use Rattle.decl_spelling.specs.Grammar.{Here}
 use Rattle.decl_spelling.specs.Spelling.{Block, Apart, here}
-use Rattle.decl_spelling.proofs.Took.{Ask, asking, Fits, Went, IsHead, kind_of_head, head_asks, seen_from}
+use Rattle.decl_spelling.specs.Asks.{Ask, asking}
+use Rattle.decl_spelling.proofs.Took.{Fits, Went, IsHead, kind_of_head, head_asks, seen_from}
 use Rattle.decl_spelling.proofs.FlatLaws.{head_took, receivers_took, value_took}
 use Rattle.decl_spelling.proofs.ValueReaders.{kind_spelling}
 use Rattle.decl_spelling.proofs.TableLaws.{Rising, block, blocks_of, finished_of, found_block, found_above, first_has, later_has}
 use Rattle.decl_spelling.proofs.Windows.{part_length, byte_within, behind}
-use Rattle.decl_spelling.proofs.TypesTaken.{Fine, Added, all_known}
+use Rattle.decl_spelling.proofs.TypeTakes.{Fine, Added, all_known}
 use Rattle.decl_spelling.proofs.NewBlocks.{block_some}
-use Rattle.decl_spelling.proofs.BlocksTaken.{window_fits, here_is, block_takes}
-use Rattle.decl_spelling.proofs.DeclarationsTaken.{blank, resolved_ok, spelling_ok, fault_ok, fine_none}
+use Rattle.decl_spelling.proofs.BlockTakes.{window_fits, here_is, block_takes}
+use Rattle.decl_spelling.proofs.DeclTakes.{blank, resolved_ok, spelling_ok, fault_ok, fine_none}
 
 -- ---- blocks in order
 

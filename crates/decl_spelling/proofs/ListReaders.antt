@@ -9,7 +9,8 @@ use Rattle.wire_bytes.specs.Reading.{place}
 use Rattle.decl_spelling.specs.declared.mention.Demand.{Demand}
 use Rattle.decl_spelling.specs.Reading.{Ahead, Reader, number_at, times, list_at, some_at}
 use Rattle.decl_spelling.specs.Grammar.{Here, IsNumber, InTurn, IsList}
-use Rattle.decl_spelling.proofs.Took.{Ask, asking, seen_from, Again}
+use Rattle.decl_spelling.specs.Asks.{Ask, asking}
+use Rattle.decl_spelling.proofs.Took.{seen_from, Again}
 use Rattle.decl_spelling.proofs.Readers.{went_nowhere, Reads, Two, two_reads, bind_reads, tested_reads}
 use Rattle.decl_spelling.proofs.BaseReaders.{number_reads}
 

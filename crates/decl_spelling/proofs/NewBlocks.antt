@@ -14,14 +14,15 @@ use Rattle.decl_spelling.specs.Descriptors.{Flat}
 use Rattle.decl_spelling.specs.Tables.{Finished, Table, at, with_block, free_to, type_named}
 use Rattle.decl_spelling.specs.Grammar.{Here, IsDescriptor}
 use Rattle.decl_spelling.specs.Spelling.{Block, Known, Names, Says, here}
-use Rattle.decl_spelling.proofs.Took.{shape_asks}
+use Rattle.decl_spelling.specs.Asks.{shape_asks}
 use Rattle.decl_spelling.proofs.DescriptorReaders.{flat_by_reads}
 use Rattle.decl_spelling.proofs.TableLaws.{Rising, rising_new, block, blocks_of, finished_of, block_found, found_block, found_new, found_still, some_is, stop_apart}
-use Rattle.decl_spelling.proofs.NamedTypes.{Kept, known_as, known_named, names_more}
-use Rattle.decl_spelling.proofs.Retyped.{retype_twice, retype_same}
-use Rattle.decl_spelling.proofs.AskedTypes.{IsMet, shape_all, base_met}
-use Rattle.decl_spelling.proofs.TypesTaken.{Fine, Added}
-use Rattle.decl_spelling.proofs.Elementwise.{all_map}
+use Rattle.decl_spelling.specs.KnownTypes.{Kept}
+use Rattle.decl_spelling.proofs.KnownTypeLemmas.{known_as, known_named, names_more}
+use Rattle.decl_spelling.proofs.RetypeLemmas.{retype_twice, retype_same}
+use Rattle.decl_spelling.proofs.AskLemmas.{IsMet, shape_all, base_met}
+use Rattle.decl_spelling.proofs.TypeTakes.{Fine, Added}
+use Rattle.decl_spelling.proofs.MapLemmas.{all_map}
 
 -- with more blocks a block says the same
 pub says_more : (src : Sections) (some all : List Block) (b : Block) → ((x : Block) → Contains some x → Contains all x) → Says src some b → Says src all b

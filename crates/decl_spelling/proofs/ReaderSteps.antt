@@ -3,7 +3,8 @@ use Rattle.std.proofs.Common.{◌≡◌, ◌≤◌, List, [], ◌++◌, length, 
 use Rattle.wire_bytes.specs.Reading.{◌>>=◌}
 use Rattle.decl_spelling.specs.Reading.{Ahead, Reader}
 use Rattle.decl_spelling.specs.Grammar.{Here}
-use Rattle.decl_spelling.proofs.Took.{Ask, seen_from, Went}
+use Rattle.decl_spelling.specs.Asks.{Ask}
+use Rattle.decl_spelling.proofs.Took.{seen_from, Went}
 use Rattle.decl_spelling.proofs.Readers.{went_nowhere, went_on, Reads, then_answers}
 
 -- The third reader may depend on what was read before it, and on where the second one began.

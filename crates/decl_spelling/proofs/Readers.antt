@@ -1,13 +1,14 @@
 -- A property of readers that is closed under the ways in which readers are built: what is read stands there whatever follows, what
 -- stands there is read again, and the types that were named are logged.
-use Rattle.std.proofs.Common.{◌≡◌, ℕ, ◌≤◌, Bool, true, false, List, [], ◌∷◌, ◌++◌, length, Option, Some, None, Result, Ok, Err, refl, sym, ap, subst, ◌∙◌, append_assoc, arith, length-append}
+use Rattle.std.proofs.Common.{◌≡◌, ℕ, ◌≤◌, Bool, true, false, List, [], ◌++◌, length, Option, Some, None, Result, Ok, Err, refl, sym, ap, subst, ◌∙◌, append_assoc, arith, length-append}
 use Rattle.std.proofs.lemmas.List.{append-nil, map-append}
 use Rattle.wire_bytes.specs.declared.fault.ByteFault.{ByteFault}
 use Rattle.wire_bytes.specs.Reading.{◌>>=◌}
 use Rattle.decl_spelling.specs.declared.mention.Mention.{Mention}
 use Rattle.decl_spelling.specs.Reading.{Ahead, Reader, Stopped, ask, or_stop}
 use Rattle.decl_spelling.specs.Grammar.{Here}
-use Rattle.decl_spelling.proofs.Took.{Ask, ask_of, seen_from, Fits, Went, Took, Few, Again}
+use Rattle.decl_spelling.specs.Asks.{Ask, ask_of}
+use Rattle.decl_spelling.proofs.Took.{seen_from, Fits, Went, Took, Few, Again}
 
 -- ---- from one place to the next
 

@@ -8,7 +8,7 @@ use Rattle.code_tables.specs.DeclTag.{decl_tag_code}
 use Rattle.std.specs.Prelude.{Some}
 use Rattle.wire_bytes.specs.Whole.{IsGreatestLength}
 use Rattle.type_terms.specs.Trees.{Tree}
-use Rattle.type_terms.specs.Shapes.{predeclared_of, named_of, parameter_of, alias_of, pointer_of, slice_of, array_of, chan_of, map_of, func_of, struct_of, interface_of, instance_of, union_of, shape_types, sig_types}
+use Rattle.type_terms.specs.Shapes.{sig_types}
 use Rattle.type_terms.specs.Declarations.{var_of, function_of, constant_of, defined_of, renamed_of, type_parameter_of}
 use Rattle.decl_spelling.specs.declared.mention.Mention.{Mention}
 use Rattle.decl_spelling.specs.declared.mention.Demand.{Demand}
@@ -16,30 +16,12 @@ use Rattle.decl_spelling.specs.declared.mention.Demand.TheVariants.{Any, Paramet
 use Rattle.decl_spelling.specs.Sections.{Sections}
 use Rattle.decl_spelling.specs.Codes.{decl_tag_of}
 use Rattle.decl_spelling.specs.Reading.{Ahead, Reader, Stopped}
-use Rattle.decl_spelling.specs.Descriptors.{Flat}
+use Rattle.decl_spelling.specs.Asks.{Ask, unplaced, ask_of, asking}
 use Rattle.decl_spelling.specs.Descent.{meets}
 use Rattle.decl_spelling.specs.Constants.{Spelling, flag, offset, number}
 use Rattle.decl_spelling.specs.Declarations.{Head, whole, of_type, of_constant, constraint_demand}
 use Rattle.decl_spelling.specs.Grammar.{Here, IsNumber, IsTruth, IsPos, IsList, IsSig}
 use Rattle.decl_spelling.specs.Spelling.{IsKind, IsSpelled, generic_or}
-
--- what is asked of a type, by its typeOff; the place of a flag is left out
-abbrev pub Ask : Type 0
-Ask = ℕ × Demand
-
-abbrev pub unplaced : Demand → Demand
-unplaced Any = Any
-unplaced Parameter = Parameter
-unplaced Underlying = Underlying
-unplaced Base = Base
-unplaced NoParameter = NoParameter
-unplaced (Interface at) = Interface 0
-
-abbrev pub ask_of : Mention → Ask
-ask_of m = (m.value, unplaced m.asked)
-
-abbrev pub asking : Demand → List ℕ → List Ask
-asking asked types = map (λ type. (type, asked)) types
 
 -- without the place of a flag a demand is met by the same types
 pub meets_unplaced : (asked : Demand) (tree : Tree) → meets (unplaced asked) tree ≡ meets asked tree
@@ -81,27 +63,6 @@ Few a s = length s.mentions ≤ length a.mentions + length a.spot.left
 -- what stands there is read, in a window that reaches its end
 abbrev pub Again : {X : Type 0} → Reader X → Ahead → X → List ℕ → Here → Type 0
 Again p a x tail after = (b : Ahead) × (p a ≡ Ok (x, b)) × (after ≡ seen_from b tail)
-
--- ---- descriptors
-
-abbrev pub flat_types : Flat → List ℕ
-flat_types x = shape_types x
-
-abbrev pub shape_asks : Flat → List Ask
-shape_asks (predeclared_of basic) = []
-shape_asks (named_of name path) = []
-shape_asks (parameter_of name path) = []
-shape_asks (alias_of name path) = []
-shape_asks (pointer_of type) = (type, Any) ∷ []
-shape_asks (slice_of type) = (type, Any) ∷ []
-shape_asks (array_of size type) = (type, Any) ∷ []
-shape_asks (chan_of dir type) = (type, Any) ∷ []
-shape_asks (map_of key type) = (key, Any) ∷ (type, Any) ∷ []
-shape_asks (func_of home sig) = asking Any (sig_types sig)
-shape_asks (struct_of home fields) = asking Any (flat_types (struct_of home fields))
-shape_asks (interface_of home embedded methods) = asking Any (flat_types (interface_of home embedded methods))
-shape_asks (instance_of base args) = asking Any args ++ (base, Base) ∷ []
-shape_asks (union_of terms) = asking Any (flat_types (union_of terms))
 
 -- ---- heads of declarations
 

@@ -22,7 +22,7 @@ use Rattle.decl_spelling.specs.Spelling.{IsKind, IsSpelled}
 use Rattle.decl_spelling.proofs.Took.{seen_from, IsSpelling, IsValueOf}
 use Rattle.decl_spelling.proofs.Readers.{Answered, Reads, nothing, give, give_reads, as_reads, bind_reads, tested_reads}
 use Rattle.decl_spelling.proofs.BaseReaders.{plain_reads, truth_reads, text_reads}
-use Rattle.decl_spelling.proofs.Taken.{varint_takes, whole_takes, number_again}
+use Rattle.decl_spelling.proofs.ValueTakes.{varint_takes, whole_takes, number_again}
 
 -- ---- the number of a value's kind
 

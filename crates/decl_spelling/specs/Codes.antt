@@ -3,7 +3,8 @@ use Rattle.std.specs.Prelude.{ℕ, ◌==◌, ◌&&◌, nat_le, List, [], ◌∷�
 use Rattle.code_tables.specs.declared.predeclared.Basic.{Basic}
 use Rattle.code_tables.specs.declared.descriptors.TypeTag.{TypeTag}
 use Rattle.code_tables.specs.declared.declarations.DeclTag.{DeclTag}
-use Rattle.code_tables.specs.declared.declarations.DeclTag.TheVariants.{GenericFunc, GenericDefined, GenericAlias, TypeParameter}
+use Rattle.code_tables.specs.declared.declarations.DeclTag.TheVariants.{GenericFunc, GenericDefined, GenericAlias}
+use Rattle.code_tables.specs.declared.declarations.DeclTag.TheVariants.{TypeParameter}
 use Rattle.code_tables.specs.Basic.{basic_code, basic_values}
 use Rattle.code_tables.specs.TypeTag.{type_tag_code, type_tag_values}
 use Rattle.code_tables.specs.DeclTag.{decl_tag_code, decl_tag_values}

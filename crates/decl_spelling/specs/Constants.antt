@@ -24,8 +24,8 @@ basic_type basics (predeclared basic) = Some basic
 basic_type basics (instance base args) = generic_basic basics base
 basic_type basics tree = generic_basic basics tree
 
--- How a value of a basic type is spelled: as a flag, as a text's offset, or as a whole number that is signed or not and has at
--- most so many bytes.
+-- How a value of a basic type is spelled: as a flag, as a text's offset, or as a whole number that is signed or not and
+-- has at most so many bytes.
 pub data Spelling : Type 0 where
   flag : Spelling
   offset : Spelling

@@ -2,18 +2,23 @@
 use Rattle.std.specs.Prelude.{◌≡◌, ℕ, List, [], length, Bool, true, false, Result, Ok, Err}
 use Rattle.go_values.specs.declared.positions.Pos.{Pos}
 use Rattle.code_tables.specs.declared.declarations.DeclTag.{DeclTag}
-use Rattle.code_tables.specs.declared.declarations.DeclTag.TheVariants.{Var, Func, GenericFunc, Const as ConstTag, Defined, GenericDefined, Alias, GenericAlias, TypeParameter}
+use Rattle.code_tables.specs.declared.declarations.DeclTag.TheVariants.{Var, Func, GenericFunc, Const as ConstTag}
+use Rattle.code_tables.specs.declared.declarations.DeclTag.TheVariants.{Defined, GenericDefined, Alias, GenericAlias}
+use Rattle.code_tables.specs.declared.declarations.DeclTag.TheVariants.{TypeParameter}
 use Rattle.code_tables.specs.declared.predeclared.Basic.TheVariants.{Any as any_type}
 use Rattle.wire_bytes.specs.declared.fault.ByteFault.{ByteFault}
 use Rattle.wire_bytes.specs.declared.fault.ByteFault.TheVariants as faults
 use Rattle.wire_bytes.specs.Reading.{place, ◌>>=◌, byte_at}
 use Rattle.type_terms.specs.Trees.{Text, Tree, predeclared, interface}
-use Rattle.type_terms.specs.Declarations.{ReceiverOf, Form, var_of, function_of, constant_of, defined_of, renamed_of, type_parameter_of, form_map, Decl}
+use Rattle.type_terms.specs.Declarations.{ReceiverOf, Form, var_of, function_of, constant_of, defined_of, renamed_of}
+use Rattle.type_terms.specs.Declarations.{type_parameter_of, form_map, Decl}
 use Rattle.decl_spelling.specs.declared.mention.Demand.{Demand}
-use Rattle.decl_spelling.specs.declared.mention.Demand.TheVariants.{Any as any, Parameter, Underlying, NoParameter, Interface}
+use Rattle.decl_spelling.specs.declared.mention.Demand.TheVariants.{Any as any, Parameter, Underlying, NoParameter}
+use Rattle.decl_spelling.specs.declared.mention.Demand.TheVariants.{Interface}
 use Rattle.decl_spelling.specs.Sections.{Sections, Basics, window}
 use Rattle.decl_spelling.specs.Codes.{decl_tag_of}
-use Rattle.decl_spelling.specs.Reading.{Ahead, Reader, Stopped, start, or_stop, plain, truth_at, text_at, pos_at, type_at, list_at, some_at}
+use Rattle.decl_spelling.specs.Reading.{Ahead, Reader, Stopped, start, or_stop, plain, truth_at, text_at, pos_at}
+use Rattle.decl_spelling.specs.Reading.{type_at, list_at, some_at}
 use Rattle.decl_spelling.specs.Descriptors.{param_at, sig_at}
 use Rattle.decl_spelling.specs.Tables.{Table, type_named}
 use Rattle.decl_spelling.specs.Descent.{resolve_all, block_at}
@@ -26,8 +31,8 @@ FlatForm = Form Pos Text ℕ
 abbrev pub Receiver : Type 0
 Receiver = ReceiverOf Pos Text ℕ
 
--- A declaration up to where its types decide what follows: nothing more; the methods of a defined type, if its underlying type
--- isn't an interface; the value of a constant, by its type, whose typeOff stands at a place.
+-- A declaration up to where its types decide what follows: nothing more; the methods of a defined type, if its
+-- underlying type isn't an interface; the value of a constant, by its type, whose typeOff stands at a place.
 pub data Head : Type 0 where
   whole : FlatForm → Head
   of_type : Pos → List ℕ → ℕ → Head
@@ -129,7 +134,8 @@ receiver_at src a = do
 -- ---- the parts together
 
 -- the types that a part of the declaration names are read before what follows it
-abbrev pub resolved : {X : Type 0} → Sections → ℕ → Result (X × Ahead) Stopped → Table → Result ((X × Ahead) × Table) ByteFault
+abbrev pub resolved : {X : Type 0} → Sections → ℕ → Result (X × Ahead) Stopped → Table
+    → Result ((X × Ahead) × Table) ByteFault
 resolved src offset (Ok x) done = do
   known ← resolve_all src (block_at src offset) offset (x.1).mentions done
   Ok ((x.0, record { spot = (x.1).spot; before = (x.1).before; mentions = [] }), known)
@@ -156,7 +162,8 @@ abbrev pub methods_of : Pos → List ℕ → ℕ → (List Receiver × Ahead) ×
 methods_of pos tparams underlying x = read (defined_of pos tparams underlying (x.0).0) (x.0).1 x.1
 
 abbrev pub after_type : Sections → ℕ → Pos → List ℕ → ℕ → Ahead → Table → Bool → Result Read ByteFault
-after_type src offset pos tparams underlying a done true = resolved src offset (list_at (receiver_at src) a) done >>= methods_of pos tparams underlying
+after_type src offset pos tparams underlying a done true =
+    resolved src offset (list_at (receiver_at src) a) done >>= methods_of pos tparams underlying
 after_type src offset pos tparams underlying a done false = read (defined_of pos tparams underlying []) a done
 
 abbrev pub fault_alone : {X : Type 0} → Result X Stopped → Result X ByteFault
@@ -171,7 +178,8 @@ after_constant src basics pos type at a done = do
 
 abbrev pub after_head : Sections → Basics → ℕ → Head → Ahead → Table → Result Read ByteFault
 after_head src basics offset (whole form) a done = read form a done
-after_head src basics offset (of_type pos tparams underlying) a done = after_type src offset pos tparams underlying a done (has_methods (type_named src.version done underlying))
+after_head src basics offset (of_type pos tparams underlying) a done =
+    after_type src offset pos tparams underlying a done (has_methods (type_named src.version done underlying))
 after_head src basics offset (of_constant pos type at) a done = after_constant src basics pos type at a done
 
 -- the declaration at an offset

@@ -1,6 +1,7 @@
--- Reading the types that a block names. Each descriptor stands wholly before the block that names it, so offsets fall. It is
--- read once, and shares no byte with another one that was read before.
-use Rattle.std.specs.Prelude.{ℕ, zero, suc, ◌-◌, List, [], ◌∷◌, Bool, true, false, not, ◌||◌, ◌==◌, Result, Ok, Err, Option, Some, None, cond, nat_lt, nat_le, is_some}
+-- Reading the types that a block names. Each descriptor stands wholly before the block that names it, so offsets fall.
+-- It is read once, and shares no byte with another one that was read before.
+use Rattle.std.specs.Prelude.{ℕ, zero, suc, ◌-◌, List, [], ◌∷◌, Bool, true, false, not, ◌||◌, ◌==◌, Result, Ok, Err}
+use Rattle.std.specs.Prelude.{Option, Some, None, cond, nat_lt, nat_le, is_some}
 use Rattle.code_tables.specs.declared.predeclared.Basic.{Basic}
 use Rattle.code_tables.specs.Basic.{basic_code}
 use Rattle.wire_bytes.specs.declared.fault.ByteFault.{ByteFault}
@@ -8,9 +9,11 @@ use Rattle.wire_bytes.specs.declared.fault.ByteFault.TheVariants as faults
 use Rattle.wire_bytes.specs.Reading.{place, ◌>>=◌, demand}
 use Rattle.type_terms.specs.Shapes.{retype}
 use Rattle.type_terms.specs.Trees.{Tree, predeclared, named, parameter, alias, instance, union, interface, tree_of}
+use Rattle.decl_spelling.specs.declared.mention.TheConstants.{FIRST_DESCRIPTOR}
 use Rattle.decl_spelling.specs.declared.mention.Mention.{Mention}
 use Rattle.decl_spelling.specs.declared.mention.Demand.{Demand}
-use Rattle.decl_spelling.specs.declared.mention.Demand.TheVariants.{Any, Parameter, Underlying, Base, NoParameter, Interface}
+use Rattle.decl_spelling.specs.declared.mention.Demand.TheVariants.{Any, Parameter, Underlying, Base, NoParameter}
+use Rattle.decl_spelling.specs.declared.mention.Demand.TheVariants.{Interface}
 use Rattle.decl_spelling.specs.Sections.{Sections, window}
 use Rattle.decl_spelling.specs.Codes.{basic_of}
 use Rattle.decl_spelling.specs.Reading.{Ahead, Stopped, start}
@@ -72,20 +75,22 @@ named_at m (Err f) = Err f
 
 -- a descriptor that was read before ends before its holder; another one is read now
 abbrev pub found_or_read : ReadsBlock → ℕ → Mention → Table → Option Finished → Result Table ByteFault
-found_or_read read holder m done (Some finished) = demand (nat_le finished.end holder) (faults.Range m.at m.value) >>= λ _. Ok done
-found_or_read read holder m done None = named_at m (read (m.value - 32) holder done)
+found_or_read read holder m done (Some finished) =
+    demand (nat_le finished.end holder) (faults.Range m.at m.value) >>= λ _. Ok done
+found_or_read read holder m done None = named_at m (read (m.value - FIRST_DESCRIPTOR) holder done)
 
 abbrev pub with_descriptor : ReadsBlock → ℕ → Mention → Table → Result Table ByteFault
 with_descriptor read holder m done = do
-  before ← demand (nat_lt (m.value - 32) holder) (faults.Range m.at m.value)
-  found_or_read read holder m done (at done (m.value - 32))
+  before ← demand (nat_lt (m.value - FIRST_DESCRIPTOR) holder) (faults.Range m.at m.value)
+  found_or_read read holder m done (at done (m.value - FIRST_DESCRIPTOR))
 
 abbrev pub with_basic : ℕ → Mention → Table → Result Table ByteFault
 with_basic version m done = demand (is_some (basic_of version m.value)) (faults.Range m.at m.value) >>= λ _. Ok done
 
 -- the type is known now
 abbrev pub with_type : Sections → ReadsBlock → ℕ → Mention → Table → Result Table ByteFault
-with_type src read holder m done = cond (nat_lt m.value 32) (with_basic src.version m done) (with_descriptor read holder m done)
+with_type src read holder m done =
+    cond (nat_lt m.value FIRST_DESCRIPTOR) (with_basic src.version m done) (with_descriptor read holder m done)
 
 -- and is what its holder asks for
 abbrev pub resolve : Sections → ReadsBlock → ℕ → Mention → Table → Result Table ByteFault
@@ -108,13 +113,15 @@ offset_of src a = place a.spot - src.body_at
 abbrev pub finish : Sections → ReadsBlock → ℕ → Result (Flat × Ahead) Stopped → Table → Result Table ByteFault
 finish src read offset (Ok x) done = do
   known ← resolve_all src read offset (x.1).mentions done
-  Ok (with_block known offset (record { end = offset_of src x.1; tree = tree_of (retype (type_named src.version known) x.0) }))
+  Ok (with_block known offset
+      (record { end = offset_of src x.1; tree = tree_of (retype (type_named src.version known) x.0) }))
 finish src read offset (Err stopped) done = do
   known ← resolve_all src read offset stopped.mentions done
   Err stopped.fault
 
--- The descriptor at an offset, for a block that starts at another one. It may use the bytes up to that start, or up to those of a
--- descriptor that was read before. The number bounds the offsets.
+-- The descriptor at an offset, for a block that starts at another one. It may use the bytes up to that start, or up to
+-- those of a descriptor that was read before. The number bounds the offsets.
 unfoldable pub block_at : Sections → ℕ → ReadsBlock
 block_at src zero offset holder done = Err (faults.Ended 0)
-block_at src (suc n) offset holder done = finish src (block_at src n) offset (flat_at src (start (window src offset (free_to offset holder done)))) done
+block_at src (suc n) offset holder done =
+    finish src (block_at src n) offset (flat_at src (start (window src offset (free_to offset holder done)))) done

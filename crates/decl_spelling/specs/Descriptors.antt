@@ -2,15 +2,20 @@
 use Rattle.std.specs.Prelude.{ℕ, ◌^◌, List, [], ◌∷◌, Bool, false, Ok, nat_lt}
 use Rattle.go_values.specs.declared.positions.Pos.{Pos}
 use Rattle.code_tables.specs.declared.descriptors.TypeTag.{TypeTag}
-use Rattle.code_tables.specs.declared.descriptors.TypeTag.TheVariants.{Defined, Pointer, Slice, Array, Chan, Map, Signature, Struct, Interface, TypeParameter, Instance, Union, Alias}
+use Rattle.code_tables.specs.declared.descriptors.TypeTag.TheVariants.{Defined, Pointer, Slice, Array, Chan, Map}
+use Rattle.code_tables.specs.declared.descriptors.TypeTag.TheVariants.{Signature, Struct, Interface, TypeParameter}
+use Rattle.code_tables.specs.declared.descriptors.TypeTag.TheVariants.{Instance, Union, Alias}
 use Rattle.wire_bytes.specs.declared.fault.ByteFault.TheVariants as faults
 use Rattle.wire_bytes.specs.Reading.{place, ◌>>=◌}
 use Rattle.type_terms.specs.Trees.{Text}
-use Rattle.type_terms.specs.Shapes.{ParamOf, SigOf, OriginOf, FieldOf, MethodOf, TermOf, Shape, named_of, parameter_of, alias_of, pointer_of, slice_of, array_of, chan_of, map_of, func_of, struct_of, interface_of, instance_of, union_of}
+use Rattle.type_terms.specs.Shapes.{ParamOf, SigOf, OriginOf, FieldOf, MethodOf, TermOf, Shape, named_of, parameter_of}
+use Rattle.type_terms.specs.Shapes.{alias_of, pointer_of, slice_of, array_of, chan_of, map_of, func_of, struct_of}
+use Rattle.type_terms.specs.Shapes.{interface_of, instance_of, union_of}
 use Rattle.decl_spelling.specs.declared.mention.Demand.TheVariants.{Any, Base}
 use Rattle.decl_spelling.specs.Sections.{Sections}
 use Rattle.decl_spelling.specs.Codes.{type_tag_of, dir_of}
-use Rattle.decl_spelling.specs.Reading.{Reader, ask, or_stop, number_at, truth_at, text_at, path_at, pos_at, type_at, list_at, some_at}
+use Rattle.decl_spelling.specs.Reading.{Reader, ask, or_stop, number_at, truth_at, text_at, path_at, pos_at, type_at}
+use Rattle.decl_spelling.specs.Reading.{list_at, some_at}
 
 -- what stands in a descriptor, with types by their typeOffs
 abbrev pub Flat : Type 0
@@ -54,7 +59,10 @@ field_at src a = do
   type ← type_at Any name.1
   embedded ← truth_at type.1
   tag ← text_at src embedded.1
-  Ok (record { origin = no_origin; pos = pos.0; name = name.0; type = type.0; embedded = embedded.0; tag = tag.0 }, tag.1)
+  Ok (
+    record { origin = no_origin; pos = pos.0; name = name.0; type = type.0; embedded = embedded.0; tag = tag.0 },
+    tag.1,
+  )
 
 unfoldable pub method_at : Sections → Reader (MethodOf Pos Text Text ℕ)
 method_at src a = do

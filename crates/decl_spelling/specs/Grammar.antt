@@ -2,7 +2,9 @@
 use Rattle.std.specs.Prelude.{◌≡◌, ℕ, ◌^◌, ◌<◌, List, [], ◌∷◌, Bool, false, length, Option, Some, None}
 use Rattle.go_values.specs.declared.positions.Pos.{Pos}
 use Rattle.code_tables.specs.declared.descriptors.TypeTag.{TypeTag}
-use Rattle.code_tables.specs.declared.descriptors.TypeTag.TheVariants.{Defined, Pointer, Slice, Array, Chan, Map, Signature, Struct, Interface, TypeParameter, Instance, Union, Alias}
+use Rattle.code_tables.specs.declared.descriptors.TypeTag.TheVariants.{Defined, Pointer, Slice, Array, Chan, Map}
+use Rattle.code_tables.specs.declared.descriptors.TypeTag.TheVariants.{Signature, Struct, Interface, TypeParameter}
+use Rattle.code_tables.specs.declared.descriptors.TypeTag.TheVariants.{Instance, Union, Alias}
 use Rattle.code_tables.specs.TypeTag.{type_tag_code}
 use Rattle.wire_bytes.specs.Begins.{Begins}
 use Rattle.wire_bytes.specs.Uvarint.{BeginsWith}
@@ -13,7 +15,9 @@ use Rattle.position_codec.specs.Position.{Position}
 use Rattle.file_parts.specs.Paths.{IsPathAt}
 use Rattle.type_terms.specs.declared.literals.Dir.{Dir}
 use Rattle.type_terms.specs.declared.literals.Dir.TheVariants.{Receive, Send, Both}
-use Rattle.type_terms.specs.Shapes.{FieldOf, MethodOf, TermOf, predeclared_of, named_of, parameter_of, alias_of, pointer_of, slice_of, array_of, chan_of, map_of, func_of, struct_of, interface_of, instance_of, union_of}
+use Rattle.type_terms.specs.Shapes.{FieldOf, MethodOf, TermOf, predeclared_of, named_of, parameter_of, alias_of}
+use Rattle.type_terms.specs.Shapes.{pointer_of, slice_of, array_of, chan_of, map_of, func_of, struct_of, interface_of}
+use Rattle.type_terms.specs.Shapes.{instance_of, union_of}
 use Rattle.decl_spelling.specs.Sections.{Sections}
 use Rattle.decl_spelling.specs.Codes.{type_tag_of}
 use Rattle.decl_spelling.specs.Descriptors.{Flat, Param, Sig, no_origin}
@@ -38,7 +42,9 @@ abbrev pub IsPath : Sections → Here → List ℕ → Here → Type 0
 IsPath src a path b = (offset : ℕ) × IsNumber a offset b × IsPathAt src.strings src.own src.paths offset path
 
 abbrev pub IsPos : Sections → Here → Pos → Here → Type 0
-IsPos src a pos b = (now : Named) × Begins (Position src.strings a.before) a.left now b.left × (b.before ≡ now.place) × (pos ≡ pos_of now.place)
+IsPos src a pos b =
+    (now : Named) × Begins (Position src.strings a.before) a.left now b.left × (b.before ≡ now.place)
+    × (pos ≡ pos_of now.place)
 
 -- things that stand one after the other
 abbrev pub InTurn : {X : Type 0} → (Here → X → Here → Type 0) → Here → List X → Here → Type 0
@@ -118,8 +124,12 @@ IsParts src a (chan_of dir type) b = (next : Here) × IsNumber a (dir_number dir
 IsParts src a (map_of key type) b = (next : Here) × IsNumber a key next × IsNumber next type b
 IsParts src a (func_of home sig) b = (next : Here) × IsPath src a home next × IsSig src next sig b
 IsParts src a (struct_of home fields) b = (next : Here) × IsPath src a home next × IsList (IsField src) next fields b
-IsParts src a (interface_of home embedded methods) b = (at_embedded at_methods : Here) × IsPath src a home at_embedded × IsList (IsEmbedded src) at_embedded embedded at_methods × IsList (IsMethod src) at_methods methods b
-IsParts src a (instance_of base args) b = (pos : Pos) × (at_args at_base : Here) × IsPos src a pos at_args × IsList IsNumber at_args args at_base × (0 < length args) × IsNumber at_base base b
+IsParts src a (interface_of home embedded methods) b =
+    (at_embedded at_methods : Here) × IsPath src a home at_embedded
+    × IsList (IsEmbedded src) at_embedded embedded at_methods × IsList (IsMethod src) at_methods methods b
+IsParts src a (instance_of base args) b =
+    (pos : Pos) × (at_args at_base : Here) × IsPos src a pos at_args × IsList IsNumber at_args args at_base
+    × (0 < length args) × IsNumber at_base base b
 IsParts src a (union_of terms) b = IsList IsTerm a terms b × (0 < length terms)
 
 -- the kind of a descriptor

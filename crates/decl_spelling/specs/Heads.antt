@@ -1,6 +1,8 @@
--- Heads: the declaration of a defined type or an alias, as far as its type. It leads to a predeclared type, or on to the name of
--- another type. Only what stands before that is looked at: no other descriptor, and of a position only its numbers and its text.
-use Rattle.std.specs.Prelude.{◌≡◌, ℕ, zero, suc, ◌+◌, ◌-◌, ◌<◌, ◌⊎◌, ℤ, List, [], ◌∷◌, length, drop, Bool, true, false, Option, Some, None, Ok, Err, cond, nat_lt}
+-- Heads: the declaration of a defined type or an alias, as far as its type. It leads to a predeclared type, or on to
+-- the name of another type. Only what stands before that is looked at: no other descriptor, and of a position only its
+-- numbers and its text.
+use Rattle.std.specs.Prelude.{◌≡◌, ℕ, zero, suc, ◌+◌, ◌-◌, ◌<◌, ◌⊎◌, ℤ, List, [], ◌∷◌, length, drop, Bool, true, false}
+use Rattle.std.specs.Prelude.{Option, Some, None, Ok, Err, cond, nat_lt}
 use Rattle.std.specs.Option.{option_map}
 use Rattle.code_tables.specs.declared.predeclared.Basic.{Basic}
 use Rattle.code_tables.specs.declared.descriptors.TypeTag.{TypeTag}
@@ -16,6 +18,7 @@ use Rattle.wire_bytes.specs.Varint.{Varint, signed_of}
 use Rattle.wire_bytes.specs.Text.{Text, text_in}
 use Rattle.position_codec.specs.Place.{is_odd}
 use Rattle.file_parts.specs.Paths.{meant}
+use Rattle.decl_spelling.specs.declared.mention.TheConstants.{FIRST_DESCRIPTOR}
 use Rattle.decl_spelling.specs.Sections.{Sections}
 use Rattle.decl_spelling.specs.Codes.{basic_of, type_tag_of, decl_tag_of}
 
@@ -30,22 +33,26 @@ pub data Lead : Type 0 where
 abbrev pub HasText : List ℕ → List ℕ → List ℕ → List ℕ → Type 0
 HasText strings a text b = (offset : ℕ) × BeginsWith a offset b × Text strings offset text
 
--- A position: the column's number, behind it the line's where the first is odd, and behind that the offset of the file's name where
--- the second is odd too.
+-- A position: the column's number, behind it the line's where the first is odd, and behind that the offset of the
+-- file's name where the second is odd too.
 abbrev pub HasFile : List ℕ → Bool → List ℕ → List ℕ → Type 0
 HasFile strings false a b = a ≡ b
 HasFile strings true a b = (text : List ℕ) × HasText strings a text b
 
 abbrev pub HasLine : List ℕ → Bool → List ℕ → List ℕ → Type 0
 HasLine strings false a b = a ≡ b
-HasLine strings true a b = (line : ℤ) × (next : List ℕ) × Begins Varint a line next × HasFile strings (is_odd line) next b
+HasLine strings true a b =
+    (line : ℤ) × (next : List ℕ) × Begins Varint a line next × HasFile strings (is_odd line) next b
 
 abbrev pub HasPosition : List ℕ → List ℕ → List ℕ → Type 0
-HasPosition strings a b = (column : ℤ) × (next : List ℕ) × Begins Varint a column next × HasLine strings (is_odd column) next b
+HasPosition strings a b =
+    (column : ℤ) × (next : List ℕ) × Begins Varint a column next × HasLine strings (is_odd column) next b
 
 -- a count of at least 1, and that many numbers
 abbrev pub HasNumbers : List ℕ → List ℕ → Type 0
-HasNumbers a b = (numbers : List ℕ) × (next : List ℕ) × (0 < length numbers) × BeginsWith a (length numbers) next × InOrder BeginsWith next numbers b
+HasNumbers a b =
+    (numbers : List ℕ) × (next : List ℕ) × (0 < length numbers) × BeginsWith a (length numbers) next
+    × InOrder BeginsWith next numbers b
 
 -- a name, and the text that stands for the path of its package, whether or not the index lists it
 pub record HasName (src : Sections) (a : List ℕ) (path name : List ℕ) : Type 0 where
@@ -60,7 +67,8 @@ pub record HasName (src : Sections) (a : List ℕ) (path name : List ℕ) : Type
 
 -- of this kind, which the file's version has, with its parts from here on
 abbrev pub IsKindAt : Sections → ℕ → TypeTag → List ℕ → Type 0
-IsKindAt src start kind a = BeginsWith (drop start src.body) (type_tag_code kind) a × (type_tag_of src.version (type_tag_code kind) ≡ Some kind)
+IsKindAt src start kind a =
+    BeginsWith (drop start src.body) (type_tag_code kind) a × (type_tag_of src.version (type_tag_code kind) ≡ Some kind)
 
 -- a defined type or an alias by its name
 pub record IsNameAt (src : Sections) (start : ℕ) (path name : List ℕ) : Type 0 where
@@ -80,13 +88,15 @@ pub record IsInstanceAt (src : Sections) (start : ℕ) (path name : List ℕ) : 
   pub stands : IsKindAt src start types.Instance at_pos
   pub pos : HasPosition src.strings at_pos at_arguments
   pub arguments : HasNumbers at_arguments at_base
-  pub base_stands : BeginsWith at_base (32 + base) rest
+  pub base_stands : BeginsWith at_base (FIRST_DESCRIPTOR + base) rest
   pub names : IsNameAt src base path name
 
 -- where a typeOff leads
 abbrev pub LeadsTo : Sections → ℕ → Lead → Type 0
-LeadsTo src number (to_basic basic) = (number < 32) × (basic_of src.version number ≡ Some basic)
-LeadsTo src number (to_name path name) = (start : ℕ) × (number ≡ 32 + start) × (IsNameAt src start path name ⊎ IsInstanceAt src start path name)
+LeadsTo src number (to_basic basic) = (number < FIRST_DESCRIPTOR) × (basic_of src.version number ≡ Some basic)
+LeadsTo src number (to_name path name) =
+    (start : ℕ) × (number ≡ FIRST_DESCRIPTOR + start)
+    × (IsNameAt src start path name ⊎ IsInstanceAt src start path name)
 
 -- ---- declarations
 
@@ -202,12 +212,16 @@ name_at src start = do
   kind ← kind_at src start
   name_by src kind.0 kind.1
 
+-- the name that is the base of an instance, by its typeOff
+abbrev pub base_of : Sections → ℕ → Option Lead
+base_of src number = cond (nat_lt number FIRST_DESCRIPTOR) None (name_at src (number - FIRST_DESCRIPTOR))
+
 unfoldable pub find_base : Sections → List ℕ → Option Lead
 find_base src a = do
   at_arguments ← pass_position src.strings a
   at_base ← pass_numbers at_arguments
   base ← find_number at_base
-  cond (nat_lt base.0 32) None (name_at src (base.0 - 32))
+  base_of src base.0
 
 abbrev pub type_by : Sections → TypeTag → List ℕ → Option Lead
 type_by src types.Instance a = find_base src a
@@ -219,7 +233,9 @@ lead_at src start = do
   type_by src kind.0 kind.1
 
 abbrev pub lead_of : Sections → ℕ → Option Lead
-lead_of src number = cond (nat_lt number 32) (option_map to_basic (basic_of src.version number)) (lead_at src (number - 32))
+lead_of src number =
+    cond (nat_lt number FIRST_DESCRIPTOR) (option_map to_basic (basic_of src.version number))
+    (lead_at src (number - FIRST_DESCRIPTOR))
 
 abbrev pub pass_tparams : DeclTag → Passer
 pass_tparams decls.Defined a = Some a

@@ -4,6 +4,8 @@ pub mod Codes
 pub mod Descriptors
 pub mod Tables
 pub mod Descent
+pub mod KnownTypes
+pub mod Asks
 pub mod Constants
 pub mod Declarations
 pub mod Grammar

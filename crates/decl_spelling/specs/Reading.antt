@@ -1,7 +1,8 @@
--- Reading a block from left to right. A block is a declaration or the descriptor of a type. Its own bytes name the types that
--- stand in it by their typeOffs, so they are read by themselves first; where they are at fault, the types that were named
--- before are known.
-use Rattle.std.specs.Prelude.{ℕ, zero, suc, List, [], ◌∷◌, ◌++◌, Bool, true, false, Result, Ok, Err, Option, Some, None, nat_lt}
+-- Reading a block from left to right. A block is a declaration or the descriptor of a type. Its own bytes name the
+-- types that stand in it by their typeOffs, so they are read by themselves first; where they are at fault, the types
+-- that were named before are known.
+use Rattle.std.specs.Prelude.{ℕ, zero, suc, List, [], ◌∷◌, ◌++◌, Bool, true, false, Result, Ok, Err, Option, Some, None}
+use Rattle.std.specs.Prelude.{nat_lt}
 use Rattle.go_values.specs.declared.positions.Pos.{Pos}
 use Rattle.wire_bytes.specs.declared.fault.ByteFault.{ByteFault}
 use Rattle.wire_bytes.specs.declared.fault.ByteFault.TheVariants as faults
@@ -84,11 +85,20 @@ placed a (Err f) = stop a f
 abbrev pub pos_at : Sections → Reader Pos
 pos_at src a = placed a (position_at src.strings a.before.place a.spot)
 
+-- what is ahead of a typeOff that was read, which is noted with what is asked of its type
+abbrev pub mentioned : Demand → Ahead → ℕ × Ahead → Ahead
+mentioned asked a number =
+    record {
+      spot = (number.1).spot;
+      before = a.before;
+      mentions = a.mentions ++ record { at = place a.spot; value = number.0; asked = asked } ∷ [];
+    }
+
 -- a typeOff; what it names, and whether that is what its holder asks for, comes later
 unfoldable pub type_at : Demand → Reader ℕ
 type_at asked a = do
   number ← number_at a
-  Ok (number.0, record { spot = (number.1).spot; before = a.before; mentions = a.mentions ++ record { at = place a.spot; value = number.0; asked = asked } ∷ [] })
+  Ok (number.0, mentioned asked a number)
 
 -- so many things, one after the other
 unfoldable pub times : {X : Type 0} → Reader X → ℕ → Reader (List X)

@@ -4,8 +4,8 @@ use Rattle.std.specs.List.{AllByRecursion}
 use Rattle.code_tables.specs.declared.predeclared.Basic.{Basic}
 use Rattle.wire_bytes.specs.Reading.{Spot}
 
--- The two sections, where the data section begins in the file, the format version, the path of the file's own package, which
--- is empty in a bundle, and the paths of the index, as they are spelled there.
+-- The two sections, where the data section begins in the file, the format version, the path of the file's own package,
+-- which is empty in a bundle, and the paths of the index, as they are spelled there.
 pub record Sections : Type 0 where
   pub strings : List ℕ
   pub body : List ℕ

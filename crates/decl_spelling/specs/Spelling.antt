@@ -1,18 +1,23 @@
 -- Which bytes spell a declaration: blocks that explain each other.
-use Rattle.std.specs.Prelude.{◌≡◌, ◌≢◌, ℕ, ◌+◌, ◌*◌, ◌<◌, ◌≤◌, ◌⊎◌, List, [], ◌∷◌, Bool, true, false, IsTrue, length, drop, Some, map}
+use Rattle.std.specs.Prelude.{◌≡◌, ◌≢◌, ℕ, ◌+◌, ◌*◌, ◌<◌, ◌≤◌, ◌⊎◌, List, [], ◌∷◌, Bool, true, false, IsTrue, length}
+use Rattle.std.specs.Prelude.{drop, Some, map}
 use Rattle.std.specs.List.{Contains, All}
 use Rattle.go_values.specs.declared.positions.Pos.{Pos}
 use Rattle.go_values.specs.declared.constants.Const.{Const}
 use Rattle.go_values.specs.declared.constants.Const.TheVariants.{Bool as truth, Int as whole, Str as text}
 use Rattle.code_tables.specs.declared.declarations.DeclTag.{DeclTag}
-use Rattle.code_tables.specs.declared.declarations.DeclTag.TheVariants.{Var, Func, GenericFunc, Const as ConstTag, Defined, GenericDefined, Alias, GenericAlias, TypeParameter}
+use Rattle.code_tables.specs.declared.declarations.DeclTag.TheVariants.{Var, Func, GenericFunc, Const as ConstTag}
+use Rattle.code_tables.specs.declared.declarations.DeclTag.TheVariants.{Defined, GenericDefined, Alias, GenericAlias}
+use Rattle.code_tables.specs.declared.declarations.DeclTag.TheVariants.{TypeParameter}
 use Rattle.code_tables.specs.DeclTag.{decl_tag_code}
 use Rattle.wire_bytes.specs.Begins.{Begins}
 use Rattle.wire_bytes.specs.Whole.{Whole}
 use Rattle.position_codec.specs.Place.{no_place}
 use Rattle.type_terms.specs.Shapes.{Shape, SigOf, instance_of, sig_map, shape_types, retype}
 use Rattle.type_terms.specs.Trees.{Text, Tree, predeclared, tree_of}
-use Rattle.type_terms.specs.Declarations.{ReceiverOf, Form, var_of, function_of, constant_of, defined_of, renamed_of, type_parameter_of, receiver_map, form_map, form_types, Decl}
+use Rattle.type_terms.specs.Declarations.{ReceiverOf, Form, var_of, function_of, constant_of, defined_of, renamed_of}
+use Rattle.type_terms.specs.Declarations.{type_parameter_of, receiver_map, form_map, form_types, Decl}
+use Rattle.decl_spelling.specs.declared.mention.TheConstants.{FIRST_DESCRIPTOR}
 use Rattle.decl_spelling.specs.Sections.{Sections, Basics}
 use Rattle.decl_spelling.specs.Codes.{basic_of, decl_tag_of}
 use Rattle.decl_spelling.specs.Descriptors.{Sig}
@@ -32,11 +37,20 @@ pub record Known : Type 0 where
   pub number : ℕ
   pub tree : Tree
 
--- The number is the code of a predeclared type, or 32 more than the start of a block that ends before its holder.
+-- the number is the code of a predeclared type
+abbrev pub NamesBasic : Sections → Known → Type 0
+NamesBasic src x =
+    (x.number < FIRST_DESCRIPTOR) × (basic : _) × (basic_of src.version x.number ≡ Some basic)
+    × (x.tree ≡ predeclared basic)
+
+-- it stands for the start of a block that ends before its holder
+abbrev pub NamesBlock : List Block → ℕ → Known → Type 0
+NamesBlock blocks holder x =
+    (block : Block) × Contains blocks block × (x.number ≡ FIRST_DESCRIPTOR + block.start) × (block.end ≤ holder)
+    × (x.tree ≡ block.tree)
+
 abbrev pub Names : Sections → List Block → ℕ → Known → Type 0
-Names src blocks holder x =
-    ((x.number < 32) × (basic : _) × (basic_of src.version x.number ≡ Some basic) × (x.tree ≡ predeclared basic))
-    ⊎ ((block : Block) × Contains blocks block × (x.number ≡ 32 + block.start) × (block.end ≤ holder) × (x.tree ≡ block.tree))
+Names src blocks holder x = NamesBasic src x ⊎ NamesBlock blocks holder x
 
 abbrev pub AllNamed : Sections → List Block → ℕ → List Known → Type 0
 AllNamed src blocks holder = All (Names src blocks holder)
@@ -143,14 +157,23 @@ IsRightSide (tparam ∷ tparams) tree = is_parameter tree ≡ false
 
 abbrev pub IsForm : Sections → Basics → Here → KnownForm → Here → Type 0
 IsForm src basics a (var_of pos type) b = (next : Here) × IsPos src a pos next × IsNumber next type.number b
-IsForm src basics a (function_of pos tparams sig) b = (at_tparams at_sig : Here) × IsPos src a pos at_tparams × IsGenericList at_tparams tparams at_sig × IsSig src at_sig (numbered sig) b
-IsForm src basics a (constant_of pos type value) b = (at_type at_value : Here) × IsPos src a pos at_type × IsNumber at_type type.number at_value × IsValue src basics type.tree at_value value b
+IsForm src basics a (function_of pos tparams sig) b =
+    (at_tparams at_sig : Here) × IsPos src a pos at_tparams × IsGenericList at_tparams tparams at_sig
+    × IsSig src at_sig (numbered sig) b
+IsForm src basics a (constant_of pos type value) b =
+    (at_type at_value : Here) × IsPos src a pos at_type × IsNumber at_type type.number at_value
+    × IsValue src basics type.tree at_value value b
 IsForm src basics a (defined_of pos tparams underlying methods) b =
-    (at_tparams at_type at_methods : Here) × IsPos src a pos at_tparams × IsGenericList at_tparams tparams at_type × IsNumber at_type underlying.number at_methods
-    × IsTrue (is_underlying underlying.tree) × IsMethods src (has_methods underlying.tree) at_methods (map numbered_receiver methods) b
-IsForm src basics a (renamed_of pos tparams type) b = (at_tparams at_type : Here) × IsPos src a pos at_tparams × IsGenericList at_tparams tparams at_type × IsNumber at_type type.number b × IsRightSide tparams type.tree
+    (at_tparams at_type at_methods : Here) × IsPos src a pos at_tparams × IsGenericList at_tparams tparams at_type
+    × IsNumber at_type underlying.number at_methods
+    × IsTrue (is_underlying underlying.tree)
+    × IsMethods src (has_methods underlying.tree) at_methods (map numbered_receiver methods) b
+IsForm src basics a (renamed_of pos tparams type) b =
+    (at_tparams at_type : Here) × IsPos src a pos at_tparams × IsGenericList at_tparams tparams at_type
+    × IsNumber at_type type.number b × IsRightSide tparams type.tree
 IsForm src basics a (type_parameter_of pos implicit constraint) b =
-    (at_flag at_type : Here) × IsPos src a pos at_flag × IsTruth at_flag implicit at_type × IsNumber at_type constraint.number b × (IsTrue implicit → IsTrue (is_interface constraint.tree))
+    (at_flag at_type : Here) × IsPos src a pos at_flag × IsTruth at_flag implicit at_type
+    × IsNumber at_type constraint.number b × (IsTrue implicit → IsTrue (is_interface constraint.tree))
 
 -- the kind of a declaration; a function, a defined type and an alias with type parameters have kinds of their own
 abbrev pub generic_or : {X : Type 0} → List X → DeclTag → DeclTag → DeclTag
@@ -165,8 +188,8 @@ kind_of_decl (defined_of pos tparams underlying methods) = generic_or tparams Ge
 kind_of_decl (renamed_of pos tparams type) = generic_or tparams GenericAlias Alias
 kind_of_decl (type_parameter_of pos implicit constraint) = TypeParameter
 
--- At this offset a declaration is spelled: the byte of its kind, which the file's version has, and its parts, whose types are
--- spelled by descriptors that stand before it.
+-- At this offset a declaration is spelled: the byte of its kind, which the file's version has, and its parts, whose
+-- types are spelled by descriptors that stand before it.
 pub record SpellsDecl (src : Sections) (basics : Basics) (start : ℕ) (decl : Decl) : Type 0 where
   pub blocks : List Block
   pub sound : Sound src blocks

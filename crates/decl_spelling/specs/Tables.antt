@@ -7,6 +7,7 @@ use Rattle.std.specs.BTreeMap.{insert_entry}
 use Rattle.code_tables.specs.declared.predeclared.Basic.{Basic}
 use Rattle.code_tables.specs.declared.predeclared.Basic.TheVariants.{Bool as bool_type}
 use Rattle.type_terms.specs.Trees.{Tree, predeclared}
+use Rattle.decl_spelling.specs.declared.mention.TheConstants.{FIRST_DESCRIPTOR}
 use Rattle.decl_spelling.specs.Codes.{basic_of}
 
 -- where a descriptor ends in the data section, and the type that it spells
@@ -27,7 +28,9 @@ with_block done offset finished = insert_entry nat_cmp done offset finished
 -- the first byte from the offset on that a descriptor of the table has, or else the limit
 abbrev pub free_to : ℕ → ℕ → Table → ℕ
 free_to offset limit [] = limit
-free_to offset limit (entry ∷ rest) = cond (nat_le entry.1.end offset) (free_to offset limit rest) (cond (nat_le entry.0 offset) offset (cond (nat_lt entry.0 limit) entry.0 limit))
+free_to offset limit (entry ∷ rest) =
+    cond (nat_le entry.1.end offset) (free_to offset limit rest)
+    (cond (nat_le entry.0 offset) offset (cond (nat_lt entry.0 limit) entry.0 limit))
 
 abbrev pub basic_tree : Option Basic → Tree
 basic_tree (Some basic) = predeclared basic
@@ -39,4 +42,6 @@ finished_tree None = predeclared bool_type
 
 -- the type that a typeOff names; one that names none gives some type
 abbrev pub type_named : ℕ → Table → ℕ → Tree
-type_named version done number = cond (nat_lt number 32) (basic_tree (basic_of version number)) (finished_tree (at done (number - 32)))
+type_named version done number =
+    cond (nat_lt number FIRST_DESCRIPTOR) (basic_tree (basic_of version number))
+    (finished_tree (at done (number - FIRST_DESCRIPTOR)))

@@ -1,5 +1,9 @@
 //! Types as a block names them.
 
+/// A typeOff below it is the code of a predeclared type. Any other is this much more than a descriptor's offset in the
+/// data section.
+pub const FIRST_DESCRIPTOR: u64 = 32;
+
 /// What the holder of a type asks of it.
 #[derive(Clone, Copy, Debug, PartialEq, Eq)]
 pub enum Demand {
@@ -22,7 +26,7 @@ pub enum Demand {
 pub struct Mention {
     /// Where the number stands in the file.
     pub at: u64,
-    /// A predeclared type's code below 32, or 32 more than a descriptor's offset in the data section.
+    /// The typeOff itself.
     pub value: u64,
     pub asked: Demand,
 }

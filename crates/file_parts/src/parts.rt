@@ -1,6 +1,8 @@
 //! The parts of a file, as its readers take them.
 
-ghost use Rattle.std.specs.Prelude.{◌≡◌, ◌+◌, ◌≤◌, ◌&&◌, ◌||◌, nat_eq, List, [], ℕ, length, IfSome, IfNone};
+ghost use Rattle.std.specs.Prelude.{◌≡◌, ◌+◌, ◌-◌, ◌<◌, ◌≤◌, ◌&&◌, ◌||◌, nat_eq, get_or, take, drop, List, [], ℕ};
+ghost use Rattle.std.specs.Prelude.{length};
+ghost use Rattle.std.specs.Prelude.{IfSome, IfNone};
 ghost use Rattle.std.specs.Cmp.Lexicographic.{pointwise};
 ghost use Rattle.std.specs.Option.{option_copied};
 ghost use Rattle.std.specs.List.{AllByRecursion};
@@ -10,7 +12,7 @@ ghost use Rattle.file_parts.specs.FileParts.{strings_of, body_of, paths_of, IsOf
 
 use crate::search::find_titled;
 use crate::spans::TextSpan;
-use wire_bytes::text_at;
+use wire_bytes::{Cursor, text_at};
 
 /// The form of a file.
 #[derive(Clone, Copy, Debug, PartialEq, Eq)]
@@ -59,6 +61,20 @@ impl<'a> Parts<'a> {
         &self.file[start..start + self.body_len as usize]
     }
 
+    /// The bytes of the data section from an offset up to another, to be read.
+    pub fn cursor(&self, from: u64, to: u64) -> Cursor<'a>
+        requires section { self.now.body_at + self.now.body_len ≤ length self.now.file.now }
+        requires order { from ≤ to }
+        requires inside { to ≤ self.now.body_len }
+        ensures end { result.end ≡ self.now.body_at + to }
+        ensures left { result.left ≡ take (to - from) (drop from (body_of self.now)) }
+        // A proof knows it of a slice, and not of one in a struct behind a reference.
+        ensures bytes { (i : ℕ) → get_or self.now.file.now i 0 < 256 }
+    {
+        let at = self.body_at as usize;
+        cursor_in(self.file, at + from as usize, at + to as usize)
+    }
+
     /// The package path for which the text at an offset of the string section stands. The empty text stands for the
     /// file's own path, where the index has the empty text; any other for itself, where it is a path of the index. The
     /// path is found by halves, and no memory is taken.
@@ -73,6 +89,16 @@ impl<'a> Parts<'a> {
     {
         path_at(self.strings(), self.own, self.paths, offset)
     }
+}
+
+fn cursor_in(file: &[u8], from: usize, to: usize) -> Cursor<'_>
+    requires order { from ≤ to }
+    requires inside { to ≤ length file.now }
+    ensures end { result.end ≡ to }
+    ensures left { result.left ≡ take (to - from) (drop from file.now) }
+    ensures bytes { (i : ℕ) → get_or file.now i 0 < 256 }
+{
+    Cursor::new(file, from, to)
 }
 
 fn path_at<'a>(

@@ -10,9 +10,9 @@ use Rattle.name_index.specs.Lookup.{as_listed, IsListed}
 use Rattle.name_index.specs.Envelope.{Envelope}
 use Rattle.decl_spelling.specs.Sections.{HoldsBytes}
 use Rattle.decl_spelling.specs.Heads.{Lead, to_basic, to_name, head_lead}
-use Rattle.decl_spelling.proofs.Decided.{strings_are, body_is}
-use Rattle.decl_spelling.proofs.LeadsAgain.{head_again}
-use Rattle.decl_spelling.proofs.LeadsTaken.{AreBytes, head_taken}
+use Rattle.decl_spelling.proofs.DeclAtLaws.{strings_are, body_is}
+use Rattle.decl_spelling.proofs.LeadAgain.{head_again}
+use Rattle.decl_spelling.proofs.LeadTakes.{AreBytes, head_taken}
 use Rattle.session.specs.OpenFile.{sections_in}
 use Rattle.session.specs.Names.{LeadsTo, ComesDownTo, at_once, onward, offset_among, lead_of, led_by, comes_down_within, comes_down}
 use Rattle.session.proofs.Bytes.{holds_bytes}

@@ -4,7 +4,7 @@ use Rattle.std.specs.List.{AllByRecursion}
 use Rattle.name_index.specs.FullFile.{FullFile, listed}
 use Rattle.name_index.specs.Envelope.{Envelope}
 use Rattle.name_index.proofs.SortedLemmas.{one_number}
-use Rattle.decl_spelling.proofs.Decided.{decl_or_fault, one_decl, one_fault, never_both}
+use Rattle.decl_spelling.proofs.DeclAtLaws.{decl_or_fault, one_decl, one_fault, never_both}
 use Rattle.decl_spelling.specs.Sections.{HoldsBytes}
 use Rattle.session.specs.OpenFile.{sections_in}
 use Rattle.session.specs.Names.{comes_down, offset_among}

@@ -20,7 +20,8 @@ IsOutcomeAt file offset (Err fault) = FirstFault (sections_in file) (comes_down 
 
 -- the name has this number in the index, and this outcome
 abbrev pub HasOutcome : FullFile → List ℕ → List ℕ → ℕ → Outcome → Type 0
-HasOutcome file path name number outcome = (offset : ℕ) × IsListed file.packages number path name offset × IsOutcomeAt file offset outcome
+HasOutcome file path name number outcome =
+    (offset : ℕ) × IsListed file.packages number path name offset × IsOutcomeAt file offset outcome
 
 abbrev pub IsUnknown : FullFile → List ℕ → List ℕ → Type 0
 IsUnknown file path name = (number offset : ℕ) → IsListed file.packages number path name offset → ⊥

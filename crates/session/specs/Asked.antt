@@ -38,7 +38,8 @@ outcome_of nodes (Err fault) = Err fault
 abbrev pub read_of : List Node → List Kept → List (ℕ × Outcome)
 read_of nodes kept = map (λ x. (x.0, outcome_of nodes x.1)) kept
 
--- The file, the nodes of the types that were read, how many there may be, and what was read by the numbers of the names in the index.
+-- The file, the nodes of the types that were read, how many there may be, and what was read by the numbers of the names
+-- in the index.
 pub record Asked : Type 0 where
   pub file : FullFile
   pub nodes : List Node
@@ -57,7 +58,8 @@ IsInside size (Err fault) = Unit {0}
 
 -- its nodes are in the arena, and it is what the name with the number gives
 abbrev pub IsRead : FullFile → List Node → Kept → Type 0
-IsRead file nodes x = IsInside (length nodes) x.1 × (path name : List ℕ) × HasOutcome file path name x.0 (outcome_of nodes x.1)
+IsRead file nodes x =
+    IsInside (length nodes) x.1 × (path name : List ℕ) × HasOutcome file path name x.0 (outcome_of nodes x.1)
 
 abbrev pub AreRead : FullFile → List Node → List Kept → Type 0
 AreRead file nodes kept = AllByRecursion (IsRead file nodes) kept

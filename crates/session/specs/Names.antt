@@ -11,12 +11,14 @@ use Rattle.session.specs.OpenFile.{sections_in}
 
 -- the index lists the name, and the head of its declaration leads there
 abbrev pub LeadsTo : FullFile → List ℕ → List ℕ → Lead → Type 0
-LeadsTo file path name lead = (number offset : ℕ) × IsListed file.packages number path name offset × IsHead (sections_in file) offset lead
+LeadsTo file path name lead =
+    (number offset : ℕ) × IsListed file.packages number path name offset × IsHead (sections_in file) offset lead
 
 -- Its head leads to a predeclared type, or on to a name that comes down to it.
 pub data ComesDownTo (file : FullFile) (basic : Basic) : List ℕ → List ℕ → Type 0 where
   at_once : {path name : List ℕ} → LeadsTo file path name (to_basic basic) → ComesDownTo file basic path name
-  onward : {path name : List ℕ} (next_path next_name : List ℕ) → LeadsTo file path name (to_name next_path next_name) → ComesDownTo file basic next_path next_name
+  onward : {path name : List ℕ} (next_path next_name : List ℕ) → LeadsTo file path name (to_name next_path next_name)
+      → ComesDownTo file basic next_path next_name
       → ComesDownTo file basic path name
 
 -- ---- the same, as a function

@@ -50,8 +50,8 @@ impl Basics for Session<'_> {
 
     ghost meaning = { λ s. comes_down s.image.now };
 
-    /// The heads from the name on are read, one after the other, up to a predeclared type. A way through more heads than there are
-    /// names goes round for ever.
+    /// The heads from the name on are read, one after the other, up to a predeclared type. A way through more heads
+    /// than there are names goes round for ever.
     fn basic_of(&self, path: &[u8], name: &[u8]) -> Option<Basic> {
         self.basic_within(self.image.name_count(), path, name)
     }

@@ -1,6 +1,7 @@
 //! The names that were asked for, each read once.
 
-ghost use Rattle.std.specs.Prelude.{◌≡◌, ◌<◌, ◌≤◌, ◌^◌, ◌⊎◌, ◌↔◌, ℕ, [], length, Some, Ok, None, option_map, IfOk, IfSome, IsErrOf};
+ghost use Rattle.std.specs.Prelude.{◌≡◌, ◌<◌, ◌≤◌, ◌^◌, ◌⊎◌, ◌↔◌, ℕ, [], length, Some, Ok, None, option_map, IfOk};
+ghost use Rattle.std.specs.Prelude.{IfSome, IsErrOf};
 ghost use Rattle.std.specs.List.{Contains};
 ghost use Rattle.std.specs.List.Sorted.{IsStrictlySortedBy};
 ghost use Rattle.std.specs.Ordering.{nat_cmp};
@@ -8,7 +9,8 @@ ghost use Rattle.type_terms.specs.Arenas.{Extends};
 ghost use Rattle.type_terms.specs.Declarations.{Decl};
 ghost use Rattle.name_index.specs.Lookup.{IsListed};
 ghost use Rattle.session.specs.Answers.{Outcome, HasOutcome, IsUnknown};
-ghost use Rattle.session.specs.Asked.{read_by, read_for, declared_numbers, outcome_of, IsInside, lent_outcome, IsLentInside};
+ghost use Rattle.session.specs.Asked.{read_by, read_for, declared_numbers, outcome_of, IsInside, lent_outcome};
+ghost use Rattle.session.specs.Asked.{IsLentInside};
 
 use crate::names::Session;
 use decl_reader::{DeclFault, read_decl};
@@ -77,9 +79,13 @@ impl<'a> Objects<'a> {
         name: &[u8],
     ) -> Result<Option<u32>, LookUpFault>
         ensures unknown { result ≡ Ok None → IsUnknown self.old.file path.now name.now }
-        ensures found { (number : ℕ) → result ≡ Ok (Some number) → (outcome : Outcome) × HasOutcome self.old.file path.now name.now number outcome × (read_for (read_by self.new) number ≡ Some outcome) }
-        ensures stays { (number : ℕ) (outcome : Outcome) → read_for (read_by self.old) number ≡ Some outcome → read_for (read_by self.new) number ≡ Some outcome }
-        ensures only { (number : ℕ) (outcome : Outcome) → read_for (read_by self.new) number ≡ Some outcome → (read_for (read_by self.old) number ≡ Some outcome) ⊎ (result ≡ Ok (Some number)) }
+        ensures found { (number : ℕ) → result ≡ Ok (Some number) → (outcome : Outcome)
+            × HasOutcome self.old.file path.now name.now number outcome
+            × (read_for (read_by self.new) number ≡ Some outcome) }
+        ensures stays { (number : ℕ) (outcome : Outcome) → read_for (read_by self.old) number ≡ Some outcome
+            → read_for (read_by self.new) number ≡ Some outcome }
+        ensures only { (number : ℕ) (outcome : Outcome) → read_for (read_by self.new) number ≡ Some outcome
+            → (read_for (read_by self.old) number ≡ Some outcome) ⊎ (result ≡ Ok (Some number)) }
         ensures file { self.new.file ≡ self.old.file }
         ensures limit { self.new.limit ≡ self.old.limit }
         ensures full { IsErrOf result LookUpFault.Nodes → length self.new.nodes ≡ self.new.limit }
@@ -114,7 +120,9 @@ impl<'a> Objects<'a> {
     pub fn declared_count(&self) -> usize
         ensures exact { result ≡ length (declared_numbers (read_by self.now)) }
         ensures once { IsStrictlySortedBy nat_cmp (declared_numbers (read_by self.now)) }
-        ensures each { (number : ℕ) → Contains (declared_numbers (read_by self.now)) number ↔ ((decl : Decl) × (read_for (read_by self.now) number ≡ Some (Ok decl))) }
+        ensures each { (number : ℕ)
+            → Contains (declared_numbers (read_by self.now)) number ↔ ((decl : Decl)
+            × (read_for (read_by self.now) number ≡ Some (Ok decl))) }
     {
         self.read.values().filter(|outcome| outcome.is_ok()).count()
     }
@@ -128,7 +136,8 @@ fn read_outcome(
     arena: &mut Arena,
 ) -> Result<Result<DeclNode, ByteFault>, LookUpFault>
     requires listed { (path name : _) × (offset : ℕ) × IsListed session.now.image.now.packages number path name offset }
-    ensures outcome { IfOk result (λ outcome. (path name : _) × HasOutcome session.now.image.now path name number (outcome_of arena.new.nodes outcome)) }
+    ensures outcome { IfOk result (λ outcome. (path name : _)
+        × HasOutcome session.now.image.now path name number (outcome_of arena.new.nodes outcome)) }
     ensures inside { IfOk result (IsInside (length arena.new.nodes)) }
     ensures extends { Extends arena.old arena.new }
     ensures full { IsErrOf result LookUpFault.Nodes → length arena.new.nodes ≡ arena.new.limit }
@@ -147,7 +156,8 @@ fn read_counted<L: Ledger>(
     requires name { blank.name ≡ L.name }
     requires parts { blank.parts ≡ L.parts }
     requires some { 0 < blank.parts }
-    ensures outcome { IfOk result (λ outcome. (path name : _) × HasOutcome session.now.image.now path name number (outcome_of arena.new.nodes outcome)) }
+    ensures outcome { IfOk result (λ outcome. (path name : _)
+        × HasOutcome session.now.image.now path name number (outcome_of arena.new.nodes outcome)) }
     ensures inside { IfOk result (IsInside (length arena.new.nodes)) }
     ensures extends { Extends arena.old arena.new }
     ensures full { IsErrOf result LookUpFault.Nodes → length arena.new.nodes ≡ arena.new.limit }

@@ -3,13 +3,14 @@
 ghost use Rattle.std.specs.Prelude.{◌≡◌, map};
 ghost use Rattle.file_parts.specs.FileParts.{IsOfFile};
 ghost use Rattle.decl_spelling.specs.Reading.{list_at};
-ghost use Rattle.decl_spelling.specs.Declarations.{var_at, func_decl_at, generic_func_at, constant_at, defined_at, generic_defined_at, alias_at, generic_alias_at, parameter_at, constraint_demand, head_by, head_at, receiver_at};
-ghost use Rattle.decl_reader.specs.Calls.{ReadsBlock, ahead_of, sections_of};
+ghost use Rattle.decl_spelling.specs.Declarations.{var_at, func_decl_at, generic_func_at, constant_at, defined_at};
+ghost use Rattle.decl_spelling.specs.Declarations.{generic_defined_at, alias_at, generic_alias_at, parameter_at};
+ghost use Rattle.decl_spelling.specs.Declarations.{constraint_demand, head_by, head_at, receiver_at};
+ghost use Rattle.decl_reader.specs.Calls.{ReadsBlock, sections_of};
 ghost use Rattle.decl_reader.specs.Forms.{head_shape, receiver_shape};
 
 use crate::block::{Block, read_pos, read_text, read_truth, read_type};
 use crate::codes::decl_tag_of;
-use crate::fault::DeclFault;
 use crate::flat::lists::{Listed, read_list};
 use crate::flat::params::{Param, Signature, read_signature};
 use crate::flat::types::read_types;
@@ -18,7 +19,7 @@ use decl_spelling::Demand;
 use file_parts::Parts;
 use go_values::{Bytes, Const, Pos};
 use std::alloc::Global;
-use wire_bytes::ByteFault;
+use wire_bytes::{ByteFault, ReadFault};
 
 /// A method of a defined type, with its receiver.
 #[derive(Debug, Drop)]
@@ -89,15 +90,15 @@ pub(crate) fn read_declaration_head(
     alloc: Global,
     parts: &Parts<'_>,
     block: &mut Block<'_>,
-) -> Result<DeclHead, DeclFault>
+) -> Result<DeclHead, ReadFault>
     requires { IsOfFile parts.now }
-    ensures { ReadsBlock head_shape result (ahead_of block.new) (head_at (sections_of parts.now) (ahead_of block.old)) }
+    ensures { ReadsBlock head_shape (head_at (sections_of parts.now)) block.old result block.new }
 {
     let at = block.cursor.place() as u64;
     let letter = block.cursor.byte()?;
     match decl_tag_of(parts.version, letter) {
         Some(tag) => read_parts(alloc, parts, tag, block),
-        None => Err(DeclFault::Bytes(ByteFault::Tag {
+        None => Err(ReadFault::Bytes(ByteFault::Tag {
             at,
             value: u64::from(letter),
         })),
@@ -110,9 +111,9 @@ fn read_parts(
     parts: &Parts<'_>,
     tag: DeclTag,
     block: &mut Block<'_>,
-) -> Result<DeclHead, DeclFault>
+) -> Result<DeclHead, ReadFault>
     requires { IsOfFile parts.now }
-    ensures { ReadsBlock head_shape result (ahead_of block.new) (head_by (sections_of parts.now) tag (ahead_of block.old)) }
+    ensures { ReadsBlock head_shape (head_by (sections_of parts.now) tag) block.old result block.new }
 {
     match tag {
         DeclTag::Var => read_var(alloc, parts, block),
@@ -128,9 +129,9 @@ fn read_parts(
 }
 
 #[tactic(auto, unfolding(decl_spelling::specs::Declarations::var_at))]
-fn read_var(alloc: Global, parts: &Parts<'_>, block: &mut Block<'_>) -> Result<DeclHead, DeclFault>
+fn read_var(alloc: Global, parts: &Parts<'_>, block: &mut Block<'_>) -> Result<DeclHead, ReadFault>
     requires { IsOfFile parts.now }
-    ensures { ReadsBlock head_shape result (ahead_of block.new) (var_at (sections_of parts.now) (ahead_of block.old)) }
+    ensures { ReadsBlock head_shape (var_at (sections_of parts.now)) block.old result block.new }
 {
     let pos = read_pos(alloc, parts, block)?;
     let ty = read_type(block, Demand::Any)?;
@@ -138,9 +139,9 @@ fn read_var(alloc: Global, parts: &Parts<'_>, block: &mut Block<'_>) -> Result<D
 }
 
 #[tactic(auto, unfolding(decl_spelling::specs::Declarations::func_decl_at))]
-fn read_func(alloc: Global, parts: &Parts<'_>, block: &mut Block<'_>) -> Result<DeclHead, DeclFault>
+fn read_func(alloc: Global, parts: &Parts<'_>, block: &mut Block<'_>) -> Result<DeclHead, ReadFault>
     requires { IsOfFile parts.now }
-    ensures { ReadsBlock head_shape result (ahead_of block.new) (func_decl_at (sections_of parts.now) (ahead_of block.old)) }
+    ensures { ReadsBlock head_shape (func_decl_at (sections_of parts.now)) block.old result block.new }
 {
     let pos = read_pos(alloc, parts, block)?;
     let signature = read_signature(alloc, parts, block)?;
@@ -156,9 +157,9 @@ fn read_generic_func(
     alloc: Global,
     parts: &Parts<'_>,
     block: &mut Block<'_>,
-) -> Result<DeclHead, DeclFault>
+) -> Result<DeclHead, ReadFault>
     requires { IsOfFile parts.now }
-    ensures { ReadsBlock head_shape result (ahead_of block.new) (generic_func_at (sections_of parts.now) (ahead_of block.old)) }
+    ensures { ReadsBlock head_shape (generic_func_at (sections_of parts.now)) block.old result block.new }
 {
     let pos = read_pos(alloc, parts, block)?;
     let tparams = read_types(alloc, Demand::Parameter, block)?;
@@ -175,9 +176,9 @@ fn read_constant(
     alloc: Global,
     parts: &Parts<'_>,
     block: &mut Block<'_>,
-) -> Result<DeclHead, DeclFault>
+) -> Result<DeclHead, ReadFault>
     requires { IsOfFile parts.now }
-    ensures { ReadsBlock head_shape result (ahead_of block.new) (constant_at (sections_of parts.now) (ahead_of block.old)) }
+    ensures { ReadsBlock head_shape (constant_at (sections_of parts.now)) block.old result block.new }
 {
     let pos = read_pos(alloc, parts, block)?;
     let at = block.cursor.place() as u64;
@@ -190,9 +191,9 @@ fn read_defined(
     alloc: Global,
     parts: &Parts<'_>,
     block: &mut Block<'_>,
-) -> Result<DeclHead, DeclFault>
+) -> Result<DeclHead, ReadFault>
     requires { IsOfFile parts.now }
-    ensures { ReadsBlock head_shape result (ahead_of block.new) (defined_at (sections_of parts.now) (ahead_of block.old)) }
+    ensures { ReadsBlock head_shape (defined_at (sections_of parts.now)) block.old result block.new }
 {
     let pos = read_pos(alloc, parts, block)?;
     let underlying = read_type(block, Demand::Underlying)?;
@@ -208,9 +209,9 @@ fn read_generic_defined(
     alloc: Global,
     parts: &Parts<'_>,
     block: &mut Block<'_>,
-) -> Result<DeclHead, DeclFault>
+) -> Result<DeclHead, ReadFault>
     requires { IsOfFile parts.now }
-    ensures { ReadsBlock head_shape result (ahead_of block.new) (generic_defined_at (sections_of parts.now) (ahead_of block.old)) }
+    ensures { ReadsBlock head_shape (generic_defined_at (sections_of parts.now)) block.old result block.new }
 {
     let pos = read_pos(alloc, parts, block)?;
     let tparams = read_types(alloc, Demand::Parameter, block)?;
@@ -227,9 +228,9 @@ fn read_alias(
     alloc: Global,
     parts: &Parts<'_>,
     block: &mut Block<'_>,
-) -> Result<DeclHead, DeclFault>
+) -> Result<DeclHead, ReadFault>
     requires { IsOfFile parts.now }
-    ensures { ReadsBlock head_shape result (ahead_of block.new) (alias_at (sections_of parts.now) (ahead_of block.old)) }
+    ensures { ReadsBlock head_shape (alias_at (sections_of parts.now)) block.old result block.new }
 {
     let pos = read_pos(alloc, parts, block)?;
     let ty = read_type(block, Demand::Any)?;
@@ -245,9 +246,9 @@ fn read_generic_alias(
     alloc: Global,
     parts: &Parts<'_>,
     block: &mut Block<'_>,
-) -> Result<DeclHead, DeclFault>
+) -> Result<DeclHead, ReadFault>
     requires { IsOfFile parts.now }
-    ensures { ReadsBlock head_shape result (ahead_of block.new) (generic_alias_at (sections_of parts.now) (ahead_of block.old)) }
+    ensures { ReadsBlock head_shape (generic_alias_at (sections_of parts.now)) block.old result block.new }
 {
     let pos = read_pos(alloc, parts, block)?;
     let tparams = read_types(alloc, Demand::Parameter, block)?;
@@ -261,9 +262,9 @@ fn read_type_parameter(
     alloc: Global,
     parts: &Parts<'_>,
     block: &mut Block<'_>,
-) -> Result<DeclHead, DeclFault>
+) -> Result<DeclHead, ReadFault>
     requires { IsOfFile parts.now }
-    ensures { ReadsBlock head_shape result (ahead_of block.new) (parameter_at (sections_of parts.now) (ahead_of block.old)) }
+    ensures { ReadsBlock head_shape (parameter_at (sections_of parts.now)) block.old result block.new }
 {
     let pos = read_pos(alloc, parts, block)?;
     let flag = block.cursor.place() as u64;
@@ -301,7 +302,7 @@ impl Listed for ReceiverParts {
         alloc: Global,
         parts: &Parts<'_>,
         block: &mut Block<'_>,
-    ) -> Result<ReceiverParts, DeclFault> {
+    ) -> Result<ReceiverParts, ReadFault> {
         let pos = read_pos(alloc, parts, block)?;
         let name = read_text(alloc, parts, block)?;
         let recv = Param::read(alloc, parts, block)?;
@@ -320,9 +321,10 @@ pub(crate) fn read_receivers(
     alloc: Global,
     parts: &Parts<'_>,
     block: &mut Block<'_>,
-) -> Result<Vec<ReceiverParts>, DeclFault>
+) -> Result<Vec<ReceiverParts>, ReadFault>
     requires { IsOfFile parts.now }
-    ensures { ReadsBlock (λ v. map receiver_shape v.items) result (ahead_of block.new) (list_at (receiver_at (sections_of parts.now)) (ahead_of block.old)) }
+    ensures { ReadsBlock (λ v. map receiver_shape v.items) (list_at (receiver_at (sections_of parts.now))) block.old
+        result block.new }
 {
     read_list(alloc, parts, block)
 }

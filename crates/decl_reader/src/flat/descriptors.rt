@@ -3,13 +3,13 @@
 ghost use Rattle.std.specs.Prelude.{◌≡◌, ◌<◌, ◌^◌};
 ghost use Rattle.type_terms.specs.Trees.{Text};
 ghost use Rattle.file_parts.specs.FileParts.{IsOfFile};
-ghost use Rattle.decl_spelling.specs.Descriptors.{Flat as Shape, qualified_at, array_at, chan_at, map_at, func_at, struct_at, interface_at, instance_at, union_at, flat_by, flat_at};
-ghost use Rattle.decl_reader.specs.Calls.{ReadsBlock, ahead_of, sections_of};
+ghost use Rattle.decl_spelling.specs.Descriptors.{Flat as Shape, qualified_at, array_at, chan_at, map_at, func_at};
+ghost use Rattle.decl_spelling.specs.Descriptors.{struct_at, interface_at, instance_at, union_at, flat_by, flat_at};
+ghost use Rattle.decl_reader.specs.Calls.{ReadsBlock, sections_of};
 ghost use Rattle.decl_reader.specs.Shapes.{flat_shape};
 
 use crate::block::{Block, read_number, read_path, read_pos, read_text, read_type};
 use crate::codes::{dir_of, type_tag_of};
-use crate::fault::DeclFault;
 use crate::flat::lists::{read_list, read_some};
 use crate::flat::members::{FieldParts, MethodParts, TermParts};
 use crate::flat::params::{Signature, read_signature};
@@ -20,10 +20,10 @@ use file_parts::Parts;
 use go_values::{Bytes, QName};
 use std::alloc::Global;
 use type_terms::Dir;
-use wire_bytes::ByteFault;
+use wire_bytes::{ByteFault, ReadFault};
 
-/// What stands in a descriptor. The first text of a function, a struct and an interface is the path of the package in which the
-/// literal stands.
+/// What stands in a descriptor. The first text of a function, a struct and an interface is the path of the package in
+/// which the literal stands.
 #[derive(Debug, Drop)]
 pub(crate) enum Flat {
     Defined(QName),
@@ -52,15 +52,15 @@ pub(crate) fn read_flat(
     alloc: Global,
     parts: &Parts<'_>,
     block: &mut Block<'_>,
-) -> Result<Flat, DeclFault>
+) -> Result<Flat, ReadFault>
     requires { IsOfFile parts.now }
-    ensures { ReadsBlock flat_shape result (ahead_of block.new) (flat_at (sections_of parts.now) (ahead_of block.old)) }
+    ensures { ReadsBlock flat_shape (flat_at (sections_of parts.now)) block.old result block.new }
 {
     let at = block.cursor.place() as u64;
     let value = read_number(block)?;
     match type_tag_of(parts.version, value) {
         Some(tag) => read_parts(alloc, parts, tag, block),
-        None => Err(DeclFault::Bytes(ByteFault::Tag { at, value })),
+        None => Err(ReadFault::Bytes(ByteFault::Tag { at, value })),
     }
 }
 
@@ -71,9 +71,9 @@ fn read_parts(
     parts: &Parts<'_>,
     tag: TypeTag,
     block: &mut Block<'_>,
-) -> Result<Flat, DeclFault>
+) -> Result<Flat, ReadFault>
     requires { IsOfFile parts.now }
-    ensures { ReadsBlock flat_shape result (ahead_of block.new) (flat_by (sections_of parts.now) tag (ahead_of block.old)) }
+    ensures { ReadsBlock flat_shape (flat_by (sections_of parts.now) tag) block.old result block.new }
 {
     match tag {
         TypeTag::Defined => Ok(Flat::Defined(read_qualified(alloc, parts, block)?)),
@@ -98,9 +98,10 @@ fn read_qualified(
     alloc: Global,
     parts: &Parts<'_>,
     block: &mut Block<'_>,
-) -> Result<QName, DeclFault>
+) -> Result<QName, ReadFault>
     requires { IsOfFile parts.now }
-    ensures each { (make : Text → Text → Shape) → ReadsBlock (λ q. make q.name q.path) result (ahead_of block.new) (qualified_at (sections_of parts.now) make (ahead_of block.old)) }
+    ensures each { (make : Text → Text → Shape)
+        → ReadsBlock (λ q. make q.name q.path) (qualified_at (sections_of parts.now) make) block.old result block.new }
 {
     let name = read_text(alloc, parts, block)?;
     let path = read_path(alloc, parts, block)?;
@@ -109,13 +110,13 @@ fn read_qualified(
 
 /// A length and the element's type.
 #[tactic(auto, unfolding(decl_spelling::specs::Descriptors::array_at))]
-fn read_array(block: &mut Block<'_>) -> Result<Flat, DeclFault>
-    ensures { ReadsBlock flat_shape result (ahead_of block.new) (array_at (ahead_of block.old)) }
+fn read_array(block: &mut Block<'_>) -> Result<Flat, ReadFault>
+    ensures { ReadsBlock flat_shape array_at block.old result block.new }
 {
     let at = block.cursor.place() as u64;
     let value = read_number(block)?;
     if value > i64::MAX as u64 {
-        return Err(DeclFault::Bytes(ByteFault::Range { at, value }));
+        return Err(ReadFault::Bytes(ByteFault::Range { at, value }));
     }
     let ty = read_type(block, Demand::Any)?;
     Ok(Flat::Array(value, ty))
@@ -123,13 +124,13 @@ fn read_array(block: &mut Block<'_>) -> Result<Flat, DeclFault>
 
 /// A direction and the element's type.
 #[tactic(auto, unfolding(decl_spelling::specs::Descriptors::chan_at))]
-fn read_chan(block: &mut Block<'_>) -> Result<Flat, DeclFault>
-    ensures { ReadsBlock flat_shape result (ahead_of block.new) (chan_at (ahead_of block.old)) }
+fn read_chan(block: &mut Block<'_>) -> Result<Flat, ReadFault>
+    ensures { ReadsBlock flat_shape chan_at block.old result block.new }
 {
     let at = block.cursor.place() as u64;
     let value = read_number(block)?;
     let Some(dir) = dir_of(value) else {
-        return Err(DeclFault::Bytes(ByteFault::Tag { at, value }));
+        return Err(ReadFault::Bytes(ByteFault::Tag { at, value }));
     };
     let ty = read_type(block, Demand::Any)?;
     Ok(Flat::Chan(dir, ty))
@@ -137,8 +138,8 @@ fn read_chan(block: &mut Block<'_>) -> Result<Flat, DeclFault>
 
 /// The key's type and the element's.
 #[tactic(auto, unfolding(decl_spelling::specs::Descriptors::map_at))]
-fn read_map(block: &mut Block<'_>) -> Result<Flat, DeclFault>
-    ensures { ReadsBlock flat_shape result (ahead_of block.new) (map_at (ahead_of block.old)) }
+fn read_map(block: &mut Block<'_>) -> Result<Flat, ReadFault>
+    ensures { ReadsBlock flat_shape map_at block.old result block.new }
 {
     let key = read_type(block, Demand::Any)?;
     let ty = read_type(block, Demand::Any)?;
@@ -147,9 +148,9 @@ fn read_map(block: &mut Block<'_>) -> Result<Flat, DeclFault>
 
 /// The path of its package, and a signature.
 #[tactic(auto, unfolding(decl_spelling::specs::Descriptors::func_at))]
-fn read_func(alloc: Global, parts: &Parts<'_>, block: &mut Block<'_>) -> Result<Flat, DeclFault>
+fn read_func(alloc: Global, parts: &Parts<'_>, block: &mut Block<'_>) -> Result<Flat, ReadFault>
     requires { IsOfFile parts.now }
-    ensures { ReadsBlock flat_shape result (ahead_of block.new) (func_at (sections_of parts.now) (ahead_of block.old)) }
+    ensures { ReadsBlock flat_shape (func_at (sections_of parts.now)) block.old result block.new }
 {
     let home = read_path(alloc, parts, block)?;
     let signature = read_signature(alloc, parts, block)?;
@@ -158,9 +159,9 @@ fn read_func(alloc: Global, parts: &Parts<'_>, block: &mut Block<'_>) -> Result<
 
 /// The path of its package, and the fields.
 #[tactic(auto, unfolding(decl_spelling::specs::Descriptors::struct_at))]
-fn read_struct(alloc: Global, parts: &Parts<'_>, block: &mut Block<'_>) -> Result<Flat, DeclFault>
+fn read_struct(alloc: Global, parts: &Parts<'_>, block: &mut Block<'_>) -> Result<Flat, ReadFault>
     requires { IsOfFile parts.now }
-    ensures { ReadsBlock flat_shape result (ahead_of block.new) (struct_at (sections_of parts.now) (ahead_of block.old)) }
+    ensures { ReadsBlock flat_shape (struct_at (sections_of parts.now)) block.old result block.new }
 {
     let home = read_path(alloc, parts, block)?;
     let fields = read_list(alloc, parts, block)?;
@@ -173,9 +174,9 @@ fn read_interface(
     alloc: Global,
     parts: &Parts<'_>,
     block: &mut Block<'_>,
-) -> Result<Flat, DeclFault>
+) -> Result<Flat, ReadFault>
     requires { IsOfFile parts.now }
-    ensures { ReadsBlock flat_shape result (ahead_of block.new) (interface_at (sections_of parts.now) (ahead_of block.old)) }
+    ensures { ReadsBlock flat_shape (interface_at (sections_of parts.now)) block.old result block.new }
 {
     let home = read_path(alloc, parts, block)?;
     let embedded = read_embedded(alloc, parts, block)?;
@@ -185,9 +186,9 @@ fn read_interface(
 
 /// A position, which isn't kept, the arguments and the generic type.
 #[tactic(auto, unfolding(decl_spelling::specs::Descriptors::instance_at))]
-fn read_instance(alloc: Global, parts: &Parts<'_>, block: &mut Block<'_>) -> Result<Flat, DeclFault>
+fn read_instance(alloc: Global, parts: &Parts<'_>, block: &mut Block<'_>) -> Result<Flat, ReadFault>
     requires { IsOfFile parts.now }
-    ensures { ReadsBlock flat_shape result (ahead_of block.new) (instance_at (sections_of parts.now) (ahead_of block.old)) }
+    ensures { ReadsBlock flat_shape (instance_at (sections_of parts.now)) block.old result block.new }
 {
     let _pos = read_pos(alloc, parts, block)?;
     let arguments = read_types(alloc, Demand::Any, block)?;
@@ -197,9 +198,9 @@ fn read_instance(alloc: Global, parts: &Parts<'_>, block: &mut Block<'_>) -> Res
 
 /// The terms.
 #[tactic(auto, unfolding(decl_spelling::specs::Descriptors::union_at))]
-fn read_union(alloc: Global, parts: &Parts<'_>, block: &mut Block<'_>) -> Result<Flat, DeclFault>
+fn read_union(alloc: Global, parts: &Parts<'_>, block: &mut Block<'_>) -> Result<Flat, ReadFault>
     requires { IsOfFile parts.now }
-    ensures { ReadsBlock flat_shape result (ahead_of block.new) (union_at (ahead_of block.old)) }
+    ensures { ReadsBlock flat_shape union_at block.old result block.new }
 {
     let terms = read_some(alloc, parts, block)?;
     Ok(Flat::Union(terms))

@@ -3,20 +3,19 @@
 ghost use Rattle.std.specs.Prelude.{◌≡◌, ◌<◌, map};
 ghost use Rattle.file_parts.specs.FileParts.{IsOfFile};
 ghost use Rattle.decl_spelling.specs.Reading.{times, list_at, some_at};
-ghost use Rattle.decl_reader.specs.Calls.{ReadsBlock, ahead_of, sections_of};
+ghost use Rattle.decl_reader.specs.Calls.{ReadsBlock, sections_of};
 
 use crate::block::{Block, read_number};
-use crate::fault::DeclFault;
 use file_parts::Parts;
 use std::alloc::Global;
-use wire_bytes::ByteFault;
+use wire_bytes::{ByteFault, ReadFault};
 
 /// What stands in a counted list of a block.
 pub(crate) trait Listed: Drop {
     ghost use Rattle.file_parts.specs.FileParts.{IsOfFile};
     ghost use Rattle.decl_spelling.specs.Sections.{Sections};
     ghost use Rattle.decl_spelling.specs.Reading.{Reader};
-    ghost use Rattle.decl_reader.specs.Calls.{ReadsBlock, ahead_of, sections_of};
+    ghost use Rattle.decl_reader.specs.Calls.{ReadsBlock, sections_of};
 
     ghost Shape: { Type 0 };
 
@@ -25,9 +24,9 @@ pub(crate) trait Listed: Drop {
     ghost reading: { Sections → Reader Shape };
 
     /// Reads the next one.
-    fn read(alloc: Global, parts: &Parts<'_>, block: &mut Block<'_>) -> Result<Self, DeclFault>
+    fn read(alloc: Global, parts: &Parts<'_>, block: &mut Block<'_>) -> Result<Self, ReadFault>
         requires { IsOfFile parts.now }
-        ensures { ReadsBlock shape result (ahead_of block.new) (reading (sections_of parts.now) (ahead_of block.old)) };
+        ensures { ReadsBlock shape (reading (sections_of parts.now)) block.old result block.new };
 }
 
 /// That many items.
@@ -36,9 +35,10 @@ pub(crate) fn read_times<T: Listed>(
     parts: &Parts<'_>,
     count: u64,
     block: &mut Block<'_>,
-) -> Result<Vec<T>, DeclFault>
+) -> Result<Vec<T>, ReadFault>
     requires { IsOfFile parts.now }
-    ensures { ReadsBlock (λ v. map T.shape v.items) result (ahead_of block.new) (times (T.reading (sections_of parts.now)) count (ahead_of block.old)) }
+    ensures { ReadsBlock (λ v. map T.shape v.items) (times (T.reading (sections_of parts.now)) count) block.old result
+        block.new }
 {
     let mut items = Vec::new(alloc);
     for _ in 0..count {
@@ -54,9 +54,10 @@ pub(crate) fn read_list<T: Listed>(
     alloc: Global,
     parts: &Parts<'_>,
     block: &mut Block<'_>,
-) -> Result<Vec<T>, DeclFault>
+) -> Result<Vec<T>, ReadFault>
     requires { IsOfFile parts.now }
-    ensures { ReadsBlock (λ v. map T.shape v.items) result (ahead_of block.new) (list_at (T.reading (sections_of parts.now)) (ahead_of block.old)) }
+    ensures { ReadsBlock (λ v. map T.shape v.items) (list_at (T.reading (sections_of parts.now))) block.old result
+        block.new }
 {
     let count = read_number(block)?;
     read_times(alloc, parts, count, block)
@@ -68,14 +69,15 @@ pub(crate) fn read_some<T: Listed>(
     alloc: Global,
     parts: &Parts<'_>,
     block: &mut Block<'_>,
-) -> Result<Vec<T>, DeclFault>
+) -> Result<Vec<T>, ReadFault>
     requires { IsOfFile parts.now }
-    ensures { ReadsBlock (λ v. map T.shape v.items) result (ahead_of block.new) (some_at (T.reading (sections_of parts.now)) (ahead_of block.old)) }
+    ensures { ReadsBlock (λ v. map T.shape v.items) (some_at (T.reading (sections_of parts.now))) block.old result
+        block.new }
 {
     let at = block.cursor.place() as u64;
     let count = read_number(block)?;
     if count == 0 {
-        return Err(DeclFault::Bytes(ByteFault::Range { at, value: count }));
+        return Err(ReadFault::Bytes(ByteFault::Range { at, value: count }));
     }
     read_times(alloc, parts, count, block)
 }

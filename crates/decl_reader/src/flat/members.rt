@@ -1,13 +1,13 @@
 //! Fields, methods and terms, with types as numbers.
 
 use crate::block::{Block, read_pos, read_text, read_truth, read_type};
-use crate::fault::DeclFault;
 use crate::flat::lists::Listed;
 use crate::flat::params::{Signature, read_signature};
 use decl_spelling::Demand;
 use file_parts::Parts;
 use go_values::{Bytes, Pos};
 use std::alloc::Global;
+use wire_bytes::ReadFault;
 
 /// A field of a struct.
 #[derive(Debug, Drop)]
@@ -49,7 +49,7 @@ impl Listed for FieldParts {
         alloc: Global,
         parts: &Parts<'_>,
         block: &mut Block<'_>,
-    ) -> Result<FieldParts, DeclFault> {
+    ) -> Result<FieldParts, ReadFault> {
         let pos = read_pos(alloc, parts, block)?;
         let name = read_text(alloc, parts, block)?;
         let ty = read_type(block, Demand::Any)?;
@@ -80,7 +80,7 @@ impl Listed for MethodParts {
         alloc: Global,
         parts: &Parts<'_>,
         block: &mut Block<'_>,
-    ) -> Result<MethodParts, DeclFault> {
+    ) -> Result<MethodParts, ReadFault> {
         let pos = read_pos(alloc, parts, block)?;
         let name = read_text(alloc, parts, block)?;
         let signature = read_signature(alloc, parts, block)?;
@@ -107,7 +107,7 @@ impl Listed for TermParts {
         _alloc: Global,
         _parts: &Parts<'_>,
         block: &mut Block<'_>,
-    ) -> Result<TermParts, DeclFault> {
+    ) -> Result<TermParts, ReadFault> {
         let tilde = read_truth(block)?;
         let ty = read_type(block, Demand::Any)?;
         Ok(TermParts { tilde, ty })

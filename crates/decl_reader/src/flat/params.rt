@@ -3,16 +3,16 @@
 ghost use Rattle.std.specs.Prelude.{◌≡◌, map};
 ghost use Rattle.file_parts.specs.FileParts.{IsOfFile};
 ghost use Rattle.decl_spelling.specs.Descriptors.{variadic_at, sig_at};
-ghost use Rattle.decl_reader.specs.Calls.{ReadsBlock, ahead_of, sections_of};
+ghost use Rattle.decl_reader.specs.Calls.{ReadsBlock, sections_of};
 ghost use Rattle.decl_reader.specs.Shapes.{param_shape, sig_shape};
 
 use crate::block::{Block, read_pos, read_text, read_truth, read_type};
-use crate::fault::DeclFault;
 use crate::flat::lists::{Listed, read_list};
 use decl_spelling::Demand;
 use file_parts::Parts;
 use go_values::{Bytes, Pos};
 use std::alloc::Global;
+use wire_bytes::ReadFault;
 
 /// A parameter, a result or a receiver.
 #[derive(Debug, Drop)]
@@ -41,7 +41,7 @@ impl Listed for Param {
     ghost reading = { param_at };
 
     #[tactic(auto, unfolding(decl_spelling::specs::Descriptors::param_at))]
-    fn read(alloc: Global, parts: &Parts<'_>, block: &mut Block<'_>) -> Result<Param, DeclFault> {
+    fn read(alloc: Global, parts: &Parts<'_>, block: &mut Block<'_>) -> Result<Param, ReadFault> {
         let pos = read_pos(alloc, parts, block)?;
         let name = read_text(alloc, parts, block)?;
         let ty = read_type(block, Demand::Any)?;
@@ -50,8 +50,8 @@ impl Listed for Param {
 }
 
 /// The flag stands only where there is a parameter.
-fn read_variadic(params: &[Param], block: &mut Block<'_>) -> Result<bool, DeclFault>
-    ensures { ReadsBlock (λ b. b) result (ahead_of block.new) (variadic_at (map param_shape params.now) (ahead_of block.old)) }
+fn read_variadic(params: &[Param], block: &mut Block<'_>) -> Result<bool, ReadFault>
+    ensures { ReadsBlock (λ b. b) (variadic_at (map param_shape params.now)) block.old result block.new }
 {
     if params.is_empty() {
         return Ok(false);
@@ -65,9 +65,9 @@ pub(crate) fn read_signature(
     alloc: Global,
     parts: &Parts<'_>,
     block: &mut Block<'_>,
-) -> Result<Signature, DeclFault>
+) -> Result<Signature, ReadFault>
     requires { IsOfFile parts.now }
-    ensures { ReadsBlock sig_shape result (ahead_of block.new) (sig_at (sections_of parts.now) (ahead_of block.old)) }
+    ensures { ReadsBlock sig_shape (sig_at (sections_of parts.now)) block.old result block.new }
 {
     let params = read_list(alloc, parts, block)?;
     let results = read_list(alloc, parts, block)?;

@@ -3,16 +3,15 @@
 ghost use Rattle.std.specs.Prelude.{◌≡◌, ◌*◌};
 ghost use Rattle.file_parts.specs.FileParts.{IsOfFile};
 ghost use Rattle.decl_spelling.specs.Constants.{kind_of, kind_number, kind_given_at, kind_at, spelled_at, value_at};
-ghost use Rattle.decl_reader.specs.Calls.{ReadsBlock, ahead_of, sections_of};
+ghost use Rattle.decl_reader.specs.Calls.{ReadsBlock, sections_of};
 ghost use Rattle.decl_reader.specs.Spellings.{IsSpelling, IsKind, spelling_shape, kind_shape};
 
 use crate::block::{Block, read_text, read_truth};
-use crate::fault::DeclFault;
 use code_tables::Basic;
 use file_parts::Parts;
 use go_values::Const;
 use std::alloc::Global;
-use wire_bytes::{ByteFault, uvarint_of};
+use wire_bytes::{ByteFault, ReadFault, uvarint_of};
 
 /// How the values of a basic type are spelled.
 #[derive(Clone, Copy, Debug, PartialEq, Eq)]
@@ -74,17 +73,18 @@ pub(crate) fn read_value(
     parts: &Parts<'_>,
     spelling: Spelling,
     block: &mut Block<'_>,
-) -> Result<Const, DeclFault>
+) -> Result<Const, ReadFault>
     requires sections { IsOfFile parts.now }
     requires spelling { IsSpelling spelling }
-    ensures { ReadsBlock (λ x. x) result (ahead_of block.new) (value_at (sections_of parts.now) (spelling_shape spelling) (ahead_of block.old)) }
+    ensures { ReadsBlock (λ x. x) (value_at (sections_of parts.now) (spelling_shape spelling)) block.old result
+        block.new }
 {
     read_kind(parts.version, spelling, block)?;
     read_spelled(alloc, parts, spelling, block)
 }
 
-fn read_kind(version: u8, spelling: Spelling, block: &mut Block<'_>) -> Result<(), DeclFault>
-    ensures { ReadsBlock (λ _. tt) result (ahead_of block.new) (kind_at version (spelling_shape spelling) (ahead_of block.old)) }
+fn read_kind(version: u8, spelling: Spelling, block: &mut Block<'_>) -> Result<(), ReadFault>
+    ensures { ReadsBlock (λ _. tt) (kind_at version (spelling_shape spelling)) block.old result block.new }
 {
     if version == 1 {
         return Ok(());
@@ -93,15 +93,15 @@ fn read_kind(version: u8, spelling: Spelling, block: &mut Block<'_>) -> Result<(
 }
 
 #[tactic(auto, unfolding(decl_spelling::specs::Constants::kind_given_at))]
-fn read_given_kind(spelling: Spelling, block: &mut Block<'_>) -> Result<(), DeclFault>
-    ensures { ReadsBlock (λ _. tt) result (ahead_of block.new) (kind_given_at (spelling_shape spelling) (ahead_of block.old)) }
+fn read_given_kind(spelling: Spelling, block: &mut Block<'_>) -> Result<(), ReadFault>
+    ensures { ReadsBlock (λ _. tt) (kind_given_at (spelling_shape spelling)) block.old result block.new }
 {
     let at = block.cursor.place() as u64;
     let value = uvarint_of(block.cursor.varint()?);
     if value == 2 * kind_number(spelling) {
         Ok(())
     } else {
-        Err(DeclFault::Bytes(ByteFault::Tag { at, value }))
+        Err(ReadFault::Bytes(ByteFault::Tag { at, value }))
     }
 }
 
@@ -121,10 +121,11 @@ fn read_spelled(
     parts: &Parts<'_>,
     spelling: Spelling,
     block: &mut Block<'_>,
-) -> Result<Const, DeclFault>
+) -> Result<Const, ReadFault>
     requires sections { IsOfFile parts.now }
     requires spelling { IsSpelling spelling }
-    ensures { ReadsBlock (λ x. x) result (ahead_of block.new) (spelled_at (sections_of parts.now) (spelling_shape spelling) (ahead_of block.old)) }
+    ensures { ReadsBlock (λ x. x) (spelled_at (sections_of parts.now) (spelling_shape spelling)) block.old result
+        block.new }
 {
     match spelling {
         Spelling::Flag => Ok(Const::Bool(read_truth(block)?)),

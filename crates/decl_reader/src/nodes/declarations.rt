@@ -25,8 +25,10 @@ pub(crate) fn add_declaration(
     table: &Table,
     arena: &mut Arena,
 ) -> Result<DeclNode, DeclFault>
-    requires inside { AllInside (length arena.old.nodes) table.now.blocks.entries }
-    ensures denotes { IfOk result (λ node. decl_of arena.new.nodes node ≡ decl_meant (named_by version arena.old.nodes table.now.blocks.entries) (decl_form parts)) }
+    requires inside { AllInside (length arena.old.nodes) table.now }
+    ensures denotes { IfOk result
+        (λ node. decl_of arena.new.nodes node
+        ≡ decl_meant (named_by version arena.old.nodes table.now) (decl_form parts)) }
     ensures within { IfOk result (λ node. AllBelow (length arena.new.nodes) (decl_nodes node)) }
     ensures extends { Extends arena.old arena.new }
     ensures only_memory { IfErr result IsNoFault }

@@ -19,8 +19,8 @@ use crate::table::Table;
 use std::alloc::Global;
 use type_terms::{Arena, Node, NodeId};
 
-/// The node of the type that a descriptor spells, with the types that its numbers name. An instance has the name of a generic
-/// type, and an argument.
+/// The node of the type that a descriptor spells, with the types that its numbers name. An instance has the name of a
+/// generic type, and an argument.
 pub(crate) fn add_flat(
     alloc: Global,
     version: u8,
@@ -28,9 +28,11 @@ pub(crate) fn add_flat(
     table: &Table,
     arena: &mut Arena,
 ) -> Result<NodeId, DeclFault>
-    requires inside { AllInside (length arena.old.nodes) table.now.blocks.entries }
-    requires generic { IsGenericFlat version (table_of arena.old.nodes table.now.blocks.entries) (flat_shape flat) }
-    ensures denotes { IfOk result (λ id. tree arena.new.nodes id ≡ tree_of (retype (type_named version (table_of arena.old.nodes table.now.blocks.entries)) (flat_shape flat))) }
+    requires inside { AllInside (length arena.old.nodes) table.now }
+    requires generic { IsGenericFlat version (table_of arena.old.nodes table.now) (flat_shape flat) }
+    ensures denotes { IfOk result
+        (λ id. tree arena.new.nodes id
+        ≡ tree_of (retype (type_named version (table_of arena.old.nodes table.now)) (flat_shape flat))) }
     ensures within { IfOk result (λ id. id < length arena.new.nodes) }
     ensures extends { Extends arena.old arena.new }
     ensures only_memory { IfErr result IsNoFault }

@@ -49,8 +49,10 @@ pub(crate) trait Kept: Drop {
         table: &Table,
         arena: &mut Arena,
     ) -> Result<Self::Item, DeclFault>
-        requires inside { AllInside (length arena.old.nodes) table.now.blocks.entries }
-        ensures meant { IfOk result (λ item. meant (tree arena.new.nodes) (item_shape item) ≡ meant (named_by version arena.old.nodes table.now.blocks.entries) (shape self)) }
+        requires inside { AllInside (length arena.old.nodes) table.now }
+        ensures meant { IfOk result
+            (λ item. meant (tree arena.new.nodes) (item_shape item)
+            ≡ meant (named_by version arena.old.nodes table.now) (shape self)) }
         ensures within { IfOk result (λ item. AllBelow (length arena.new.nodes) (types (item_shape item))) }
         ensures extends { Extends arena.old arena.new }
         ensures only_memory { IfErr result IsNoFault }
@@ -68,9 +70,12 @@ pub(crate) fn all_with_nodes<T: Kept>(
     table: &Table,
     arena: &mut Arena,
 ) -> Result<Vec<T::Item>, DeclFault>
-    requires inside { AllInside (length arena.old.nodes) table.now.blocks.entries }
-    ensures meant { IfOk result (λ kept. map (T.meant (tree arena.new.nodes)) (map T.item_shape kept.items) ≡ map (T.meant (named_by version arena.old.nodes table.now.blocks.entries)) (map T.shape parts.items)) }
-    ensures within { IfOk result (λ kept. AllBelow (length arena.new.nodes) (flat_map T.types (map T.item_shape kept.items))) }
+    requires inside { AllInside (length arena.old.nodes) table.now }
+    ensures meant { IfOk result
+        (λ kept. map (T.meant (tree arena.new.nodes)) (map T.item_shape kept.items)
+        ≡ map (T.meant (named_by version arena.old.nodes table.now)) (map T.shape parts.items)) }
+    ensures within { IfOk result
+        (λ kept. AllBelow (length arena.new.nodes) (flat_map T.types (map T.item_shape kept.items))) }
     ensures extends { Extends arena.old arena.new }
     ensures only_memory { IfErr result IsNoFault }
     ensures full { IsErrOf result DeclFault.Nodes → length arena.new.nodes ≡ arena.new.limit }

@@ -7,36 +7,36 @@ ghost use Rattle.decl_reader.specs.Faults.{IsNoFault};
 ghost use Rattle.decl_reader.specs.Blocks.{AllInside};
 ghost use Rattle.decl_reader.specs.Meant.{named_by};
 
-use crate::codes::basic_of;
+use crate::codes::basic_named;
 use crate::fault::DeclFault;
 use crate::nodes::kept::{Kept, all_with_nodes};
 use crate::table::Table;
+use crate::type_off::TypeOff;
 use code_tables::Basic;
 use std::alloc::Global;
 use type_terms::{Arena, Node, NodeId, Nodes};
 
-/// The node of the type that a number names. A number that names none gives some type, as the definition does; those of a
-/// declaration that is read name one.
+/// The node of the type that a number names. A number that names none gives some type, as the definition does; those of
+/// a declaration that is read name one.
 fn node_named(
     version: u8,
     number: u64,
     table: &Table,
     arena: &mut Arena,
 ) -> Result<NodeId, DeclFault>
-    requires inside { AllInside (length arena.old.nodes) table.now.blocks.entries }
-    ensures named { IfOk result (λ id. tree arena.new.nodes id ≡ named_by version arena.old.nodes table.now.blocks.entries number) }
+    requires inside { AllInside (length arena.old.nodes) table.now }
+    ensures named { IfOk result (λ id. tree arena.new.nodes id ≡ named_by version arena.old.nodes table.now number) }
     ensures within { IfOk result (λ id. id < length arena.new.nodes) }
     ensures extends { Extends arena.old arena.new }
     ensures only_memory { IfErr result IsNoFault }
     ensures full { IsErrOf result DeclFault.Nodes → length arena.new.nodes ≡ arena.new.limit }
 {
-    if number < 32 {
-        let basic = basic_of(version, number).unwrap_or(Basic::Bool);
-        return Ok(arena.add(Node::Predeclared(basic))?);
-    }
-    match table.at(number - 32) {
-        Some(finished) => Ok(finished.node),
-        None => Ok(arena.add(Node::Predeclared(Basic::Bool))?),
+    match TypeOff::new(number) {
+        TypeOff::Basic(code) => Ok(arena.add(Node::Predeclared(basic_named(version, code)))?),
+        TypeOff::At(offset) => match table.at(offset) {
+            Some(finished) => Ok(finished.node),
+            None => Ok(arena.add(Node::Predeclared(Basic::Bool))?),
+        },
     }
 }
 

@@ -1,4 +1,4 @@
-use Rattle.decl_reader.proofs.Found.{one_lead}
+use Rattle.decl_reader.proofs.HeadLemmas.{one_lead}
 use Rattle.decl_reader.proofs.heads.one_head.Goals as goal
 
 pub returns : goal.returns

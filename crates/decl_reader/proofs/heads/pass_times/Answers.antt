@@ -1,4 +1,4 @@
-use Rattle.decl_reader.proofs.Passing.{goes_on, stops, is_done}
+use Rattle.decl_reader.proofs.PassTimesLemmas.{goes_on, stops, is_done}
 use Rattle.decl_reader.proofs.heads.pass_times.Goals as goal
 
 pub returns-in_err-find_number : goal.returns-in_err-find_number

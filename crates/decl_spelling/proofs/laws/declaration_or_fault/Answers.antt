@@ -1,4 +1,4 @@
-use Rattle.decl_spelling.proofs.Decided.{decl_or_fault, one_decl, one_fault, never_both}
+use Rattle.decl_spelling.proofs.DeclAtLaws.{decl_or_fault, one_decl, one_fault, never_both}
 use Rattle.decl_spelling.proofs.laws.declaration_or_fault.Goals as goal
 
 pub returns-clause-either : goal.returns-clause-either

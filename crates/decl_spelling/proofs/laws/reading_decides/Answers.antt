@@ -1,4 +1,4 @@
-use Rattle.decl_spelling.proofs.Decided.{decl_found, decl_again}
+use Rattle.decl_spelling.proofs.DeclAtLaws.{decl_found, decl_again}
 use Rattle.decl_spelling.proofs.laws.reading_decides.Goals as goal
 
 pub returns-clause-found : goal.returns-clause-found

@@ -1,7 +1,7 @@
 use Rattle.std.proofs.Common.{◌≡◌, ◌++◌, ◌∷◌, [], map}
 use Rattle.std.proofs.lemmas.List.{map_push}
 use Rattle.std.proofs.lemmas.Result.{err_from_is_err_and}
-use Rattle.decl_reader.proofs.Lists.{goes_on, ends, is_done}
+use Rattle.decl_reader.proofs.TimesLemmas.{goes_on, ends, is_done}
 use Rattle.decl_reader.proofs.flat.lists.read_times.Goals as goal
 
 pub returns-in_err-item : goal.returns-in_err-item

@@ -1,5 +1,5 @@
 use Rattle.std.proofs.lemmas.Result.{err_from_is_err_and}
-use Rattle.decl_reader.proofs.Lists.{goes_on, ends, is_done}
+use Rattle.decl_reader.proofs.TimesLemmas.{goes_on, ends, is_done}
 use Rattle.decl_reader.proofs.flat.types.read_embedded_times.Goals as goal
 
 pub returns-in_err-ty : goal.returns-in_err-ty

@@ -2,7 +2,7 @@ use Rattle.std.proofs.Common.{◌≡◌, ◌-◌}
 use Rattle.decl_spelling.specs.Reading.{times}
 use Rattle.decl_spelling.specs.Descriptors.{embedded_at}
 use Rattle.decl_reader.specs.Calls.{ahead_of, sections_of}
-use Rattle.decl_reader.proofs.Lists.{with_front}
+use Rattle.decl_reader.proofs.TimesLemmas.{with_front}
 use Rattle.decl_reader.proofs.flat.types.read_embedded_times.Given as goal
 
 abbrev pub invariant-loop : goal.invariant-loop

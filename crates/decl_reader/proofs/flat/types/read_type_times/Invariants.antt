@@ -1,7 +1,7 @@
 use Rattle.std.proofs.Common.{◌≡◌, ◌-◌}
 use Rattle.decl_spelling.specs.Reading.{times, type_at}
 use Rattle.decl_reader.specs.Calls.{ahead_of}
-use Rattle.decl_reader.proofs.Lists.{with_front}
+use Rattle.decl_reader.proofs.TimesLemmas.{with_front}
 use Rattle.decl_reader.proofs.flat.types.read_type_times.Given as goal
 
 abbrev pub invariant-loop : goal.invariant-loop

@@ -6,7 +6,7 @@ use Rattle.type_terms.specs.Arenas.{AllBelow}
 use Rattle.type_terms.specs.Denotation.{tree}
 use Rattle.type_terms.specs.Extensions.{extends_again}
 use Rattle.decl_reader.specs.Meant.{Named, named_by}
-use Rattle.decl_reader.proofs.Extended.{one_more, one_more_below, all_kept, none_left}
+use Rattle.decl_reader.proofs.ExtendsLemmas.{one_more, one_more_below, all_kept, none_left}
 use Rattle.decl_reader.proofs.nodes.kept.all_with_nodes.Goals as goal
 
 pub loop-part-preserved : goal.loop-part-preserved
@@ -21,7 +21,7 @@ loop-part-preserved g c =
     let steps : into_iter_items at.part-iterator ≡ c.in-Some.part ∷ left = c.in-Some.ensures.steps.0 in
     let pushed : map t.item_shape c.push.new.self.items ≡ kept ++ item ∷ [] = rw c.in_ok-push.ensures.items (map_push t.item_shape at.kept.items c.in_ok-item.item) in
     let so_far = rw steps at at.invariant.meant in
-    let meant = one_more t.types t.meant g.met.T.Kept.agrees at.arena new grown c.args.version c.args.table.now.blocks.entries c.args.arena.now at.invariant.extends c.requires.inside kept item (t.shape c.in-Some.part) (map t.shape left) (map (t.meant (named_by c.args.version c.args.arena.now.nodes c.args.table.now.blocks.entries)) (map t.shape c.args.parts.items)) at.invariant.within c.in_ok-item.ensures.meant so_far in
+    let meant = one_more t.types t.meant g.met.T.Kept.agrees at.arena new grown c.args.version c.args.table.now c.args.arena.now at.invariant.extends c.requires.inside kept item (t.shape c.in-Some.part) (map t.shape left) (map (t.meant (named_by c.args.version c.args.arena.now.nodes c.args.table.now)) (map t.shape c.args.parts.items)) at.invariant.within c.in_ok-item.ensures.meant so_far in
     record {
       extends = extends_again c.args.arena.now at.arena new at.invariant.extends grown;
       within = subst (λ xs. AllBelow (length new.nodes) (flat_map t.types xs)) (sym pushed) (one_more_below t.types t.meant g.met.T.Kept.agrees at.arena new grown kept item at.invariant.within c.in_ok-item.ensures.within);
@@ -33,7 +33,7 @@ pub returns-clause-meant : goal.returns-clause-meant
 returns-clause-meant g c =
     let t = g.T.Kept in
     let at = c.loop-part in
-    let named : Named = named_by c.args.version c.args.arena.now.nodes c.args.table.now.blocks.entries in
+    let named : Named = named_by c.args.version c.args.arena.now.nodes c.args.table.now in
     let none = none_left (into_iter_items at.part-iterator) (sym at.invariant.left ∙ c.in-None.ensures.steps.0) in
     all_kept (map (t.meant (tree at.arena.nodes)) (map t.item_shape at.kept.items)) (map (t.meant named) (map t.shape (into_iter_items at.part-iterator))) (map (t.meant named) (map t.shape c.args.parts.items))
     (ap (λ xs. map (t.meant named) (map t.shape xs)) none) at.invariant.meant

@@ -10,7 +10,7 @@ use Rattle.decl_reader.proofs.nodes.kept.all_with_nodes.Given as goal
 abbrev pub invariant-loop-part : goal.invariant-loop-part
 invariant-loop-part g l =
     let t = g.T.Kept in
-    let named = named_by l.version l.fn.arena.nodes l.table.blocks.entries in
+    let named = named_by l.version l.fn.arena.nodes l.table in
     record {
       extends : Extends l.fn.arena l.arena;
       within : AllBelow (length l.arena.nodes) (flat_map t.types (map t.item_shape l.kept.items));

@@ -1,6 +1,6 @@
 use Rattle.std.proofs.Common.{length, sym, subst}
 use Rattle.type_terms.specs.Arenas.{AllBelow}
-use Rattle.decl_reader.proofs.Extended.{numbers_below}
+use Rattle.decl_reader.proofs.ExtendsLemmas.{numbers_below}
 use Rattle.decl_reader.proofs.nodes.numbers.NumbersKept.with_nodes.Goals as goal
 
 pub returns-clause-within : goal.returns-clause-within

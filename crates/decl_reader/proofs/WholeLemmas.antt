@@ -1,0 +1,145 @@
+-- A declaration's parts, with the types that they name, come to what reading gives.
+use Rattle.std.proofs.Common.{◌≡◌, ℕ, ◌<◌, ◌≤◌, Bool, true, false, List, [], ◌∷◌, length, Result, Ok, Err, refl, sym, ap, ◌∙◌, arith}
+use Rattle.std.specs.Prelude.{IfOk, IfErr}
+use Rattle.std.specs.List.{AllByRecursion}
+use Rattle.go_values.specs.declared.positions.Pos.{Pos}
+use Rattle.wire_bytes.specs.declared.fault.ByteFault.{ByteFault}
+use Rattle.wire_bytes.specs.Reading.{◌>>=◌}
+use Rattle.wire_bytes.proofs.Spellings.{IsBytes, IsBytes-rest}
+use Rattle.file_parts.specs.declared.parts.Parts.{Parts}
+use Rattle.type_terms.specs.declared.descriptors.Node.{Node}
+use Rattle.type_terms.specs.declared.declarations.DeclNode.{DeclNode}
+use Rattle.type_terms.specs.Declarations.{Decl, constant_of}
+use Rattle.type_terms.specs.Environments.{decl_of}
+use Rattle.decl_spelling.specs.declared.mention.Mention.{Mention}
+use Rattle.decl_spelling.specs.Sections.{Sections, Basics, HoldsBytes, window}
+use Rattle.decl_spelling.specs.Reading.{Ahead, Stopped, start}
+use Rattle.decl_spelling.specs.Tables.{Table, at, type_named}
+use Rattle.decl_spelling.specs.Descent.{block_at, resolve_all}
+use Rattle.decl_spelling.specs.Constants.{basic_type, spelling_at, value_at}
+use Rattle.decl_spelling.specs.Declarations.{Head, Read, read, head_at, resolved, methods_of, after_type, fault_alone, after_constant, after_head, read_at, decl_of as decl_read, decl_at, FirstFault}
+use Rattle.decl_spelling.specs.Spelling.{SpellsDecl}
+use Rattle.decl_spelling.proofs.Bounds.{resolve_all_same, block_same}
+use Rattle.decl_spelling.proofs.DeclAtLaws.{decl_found}
+use Rattle.decl_reader.specs.declared.fault.DeclFault.{DeclFault}
+use Rattle.decl_reader.specs.declared.fault.DeclFault.TheVariants.{Bytes, Nodes, OutOfMemory}
+use Rattle.decl_reader.specs.Calls.{sections_of}
+use Rattle.decl_reader.specs.Faults.{IsNoFault}
+use Rattle.decl_reader.specs.Opens.{reads, Resolves}
+use Rattle.decl_reader.specs.Wholes.{FaultIs, IfFault, ReadsDecl, all_known, methods_by, value_by}
+use Rattle.decl_reader.proofs.HeadLemmas.{are_bytes}
+
+-- ---- types
+
+-- A declaration's types start before it, so any larger bound serves.
+pub types_same : (src : Sections) (offset : ℕ) (ms : List Mention) (done : Table) → offset ≤ length src.body → resolve_all src (reads src) offset ms done ≡ resolve_all src (block_at src offset) offset ms done
+types_same src offset ms done within =
+    resolve_all_same src (reads src) (block_at src offset) offset (λ inner now before. block_same src (length src.body) offset inner offset now (omega arith) before) ms done
+
+-- ---- a part and then its types
+
+module _ {X : Type 0} (src : Sections) (offset : ℕ) (part : Result (X × Ahead) Stopped) (done : Table) where
+  pub part_known : (x : X) (a b : Ahead) (known : Table) → part ≡ Ok (x, a) → b ≡ all_known a → resolve_all src (block_at src offset) offset a.mentions done ≡ Ok known → resolved src offset part done ≡ Ok ((x, b), known)
+  part_known x a b known is blank types = rw is (rw types (ap (λ (c : Ahead). Ok ((x, c), known)) (sym blank)))
+
+  pub part_fault : (s : Stopped) (known : Table) → part ≡ Err s → resolve_all src (block_at src offset) offset s.mentions done ≡ Ok known → resolved src offset part done ≡ Err s.fault
+  part_fault s known is types = rw is (rw types refl)
+
+  pub types_fault : (x : X) (a : Ahead) (t : Table) (e : DeclFault) → part ≡ Ok (x, a) → Resolves (Err e) t (resolve_all src (block_at src offset) offset a.mentions done) → FaultIs e (resolved src offset part done)
+  types_fault x a t (Bytes f) is types = rw is (rw types refl)
+  types_fault x a t Nodes is types = tt
+  types_fault x a t OutOfMemory is types = tt
+
+  pub types_fault_first : (s : Stopped) (t : Table) (e : DeclFault) → part ≡ Err s → Resolves (Err e) t (resolve_all src (block_at src offset) offset s.mentions done) → FaultIs e (resolved src offset part done)
+  types_fault_first s t (Bytes f) is types = rw is (rw types refl)
+  types_fault_first s t Nodes is types = tt
+  types_fault_first s t OutOfMemory is types = tt
+
+-- ---- what comes after a step
+
+pub then_fault : {A B : Type 0} (r : Result A ByteFault) (f : A → Result B ByteFault) (e : DeclFault) → FaultIs e r → FaultIs e (r >>= f)
+then_fault r f (Bytes fault) is = ap (λ r. r >>= f) is
+then_fault r f Nodes is = tt
+then_fault r f OutOfMemory is = tt
+
+pub fault_as : {A : Type 0} (a b : Result A ByteFault) (e : DeclFault) → a ≡ b → FaultIs e a → FaultIs e b
+fault_as a b (Bytes fault) same is = sym same ∙ is
+fault_as a b Nodes same is = tt
+fault_as a b OutOfMemory same is = tt
+
+pub bind_twice : {A B C : Type 0} (r : Result A ByteFault) (f : A → Result B ByteFault) (g : B → Result C ByteFault) → (r >>= f >>= g) ≡ (r >>= λ x. f x >>= g)
+bind_twice (Ok x) f g = refl
+bind_twice (Err e) f g = refl
+
+-- ---- methods and values
+
+pub methods_then : (src : Sections) (offset : ℕ) (pos : Pos) (tparams : List ℕ) (underlying : ℕ) (a : Ahead) (done : Table) (own : Bool)
+    → (methods_by src offset a done own >>= methods_of pos tparams underlying) ≡ after_type src offset pos tparams underlying a done own
+methods_then src offset pos tparams underlying a done true = refl
+methods_then src offset pos tparams underlying a done false = refl
+
+pub value_then : (src : Sections) (basics : Basics) (pos : Pos) (type at : ℕ) (a : Ahead) (done : Table)
+    → (value_by src at (basic_type basics (type_named src.version done type)) a >>= λ value. read (constant_of pos type value.0) value.1 done) ≡ after_constant src basics pos type at a done
+value_then src basics pos type at a done =
+    bind_twice (spelling_at at (basic_type basics (type_named src.version done type))) (λ spelling. fault_alone (value_at src spelling a)) (λ value. read (constant_of pos type value.0) value.1 done)
+
+-- ---- the whole
+
+module _ (src : Sections) (basics : Basics) (offset : ℕ) where
+  -- the two parts of a declaration
+  abbrev first_part : Result ((Head × Ahead) × Table) ByteFault
+  first_part = resolved src offset (head_at src (start (window src offset (length src.body)))) []
+
+  pub first_faults : (e : DeclFault) → FaultIs e first_part → FaultIs e (decl_at src basics offset)
+  unfolding read_at
+  first_faults e is =
+      then_fault (read_at src basics offset) (λ x. Ok (decl_read src x)) e (then_fault first_part (λ head. after_head src basics offset (head.0).0 (head.0).1 head.1) e is)
+
+  both_parts : (head : Head) (a : Ahead) (known : Table) → first_part ≡ Ok ((head, a), known) → after_head src basics offset head a known ≡ read_at src basics offset
+  unfolding read_at
+  both_parts head a known is = sym (ap (λ (r : Result ((Head × Ahead) × Table) ByteFault). r >>= λ x. after_head src basics offset (x.0).0 (x.0).1 x.1) is)
+
+  pub whole_read : (head : Head) (a : Ahead) (known : Table) (x : Read) → first_part ≡ Ok ((head, a), known) → after_head src basics offset head a known ≡ Ok x → read_at src basics offset ≡ Ok x
+  whole_read head a known x is rest = sym (both_parts head a known is) ∙ rest
+
+  pub rest_faults : (head : Head) (a : Ahead) (known : Table) (e : DeclFault) → first_part ≡ Ok ((head, a), known) → FaultIs e (after_head src basics offset head a known) → FaultIs e (decl_at src basics offset)
+  rest_faults head a known e is rest =
+      then_fault (read_at src basics offset) (λ x. Ok (decl_read src x)) e (fault_as (after_head src basics offset head a known) (read_at src basics offset) e (both_parts head a known is) rest)
+
+  pub whole_is : (head : Head) (a : Ahead) (known : Table) (x : Read) (d : Decl) → first_part ≡ Ok ((head, a), known) → after_head src basics offset head a known ≡ Ok x → d ≡ decl_read src x → decl_at src basics offset ≡ Ok d
+  whole_is head a known x d is rest means =
+      ap (λ (r : Result Read ByteFault). r >>= λ x. Ok (decl_read src x)) (sym (both_parts head a known is) ∙ rest) ∙ ap (λ (y : Decl). Ok y) (sym means)
+
+  -- where the head of a declaration is read from
+  pub first_is : (a : Ahead) (done : Table) (to : ℕ) → a ≡ start (window src offset to) → length src.body ≡ to → done ≡ [] → resolved src offset (head_at src a) done ≡ first_part
+  first_is a done to at size none =
+      ap (λ (b : Ahead). resolved src offset (head_at src b) done) (at ∙ ap (λ (n : ℕ). start (window src offset n)) (sym size))
+      ∙ ap (λ (t : Table). resolved src offset (head_at src (start (window src offset (length src.body)))) t) none
+
+  -- what was read, with its types as nodes
+  pub kept_is : (head : Head) (a : Ahead) (known : Table) (x : Read) (nodes : List Node) (r : Result DeclNode DeclFault) → first_part ≡ Ok ((head, a), known) → after_head src basics offset head a known ≡ Ok x
+      → IfOk r (λ node. decl_of nodes node ≡ decl_read src x) → IfErr r IsNoFault → ReadsDecl r nodes (decl_at src basics offset)
+  kept_is head a known x nodes (Ok node) first rest means none = whole_is head a known x (decl_of nodes node) first rest means
+  kept_is head a known x nodes (Err (Bytes f)) first rest means none = absurd none
+  kept_is head a known x nodes (Err Nodes) first rest means none = tt
+  kept_is head a known x nodes (Err OutOfMemory) first rest means none = tt
+
+-- ---- what a public call says of it
+
+all_bytes : (bytes : List ℕ) → IsBytes bytes → AllByRecursion (λ b. b < 256) bytes
+all_bytes [] fits = tt
+all_bytes (b ∷ bytes) fits = (omega (arith, fits 0), all_bytes bytes (IsBytes-rest b bytes fits))
+
+-- the sections of a file hold bytes
+pub holds_bytes : (p : Parts) → IsBytes p.file.now → HoldsBytes (sections_of p)
+holds_bytes p fits = let are = are_bytes p fits in (all_bytes (sections_of p).strings are.strings, all_bytes (sections_of p).body are.body)
+
+pub is_spelled : (src : Sections) (basics : Basics) (offset : ℕ) (nodes : List Node) (r : Result DeclNode DeclFault) → HoldsBytes src → ReadsDecl r nodes (decl_at src basics offset) → IfOk r (λ node. SpellsDecl src basics offset (decl_of nodes node))
+is_spelled src basics offset nodes (Ok node) holds is = decl_found src basics holds offset (decl_of nodes node) is
+is_spelled src basics offset nodes (Err e) holds is = tt
+
+pub is_fault : (src : Sections) (basics : Basics) (offset : ℕ) (nodes : List Node) (r : Result DeclNode DeclFault) → ReadsDecl r nodes (decl_at src basics offset) → IfFault r (FirstFault src basics offset)
+is_fault src basics offset nodes (Ok node) is = tt
+is_fault src basics offset nodes (Err (Bytes f)) is = is
+is_fault src basics offset nodes (Err Nodes) is = tt
+is_fault src basics offset nodes (Err OutOfMemory) is = tt

@@ -1,0 +1,7 @@
+use Rattle.std.proofs.Common.{sym, ◌∙◌}
+use Rattle.decl_reader.specs.Calls.{sections_of}
+use Rattle.decl_reader.proofs.TypeOffLemmas.{lead_is}
+use Rattle.decl_reader.proofs.heads.lead_of.Goals as goal
+
+pub returns-in-At : goal.returns-in-At
+returns-in-At c = c.lead_at.ensures ∙ sym (lead_is c.args.number c.in-At.offset c.in-At.ensures (sections_of c.args.parts.now))

@@ -1,0 +1,40 @@
+use Rattle.std.proofs.Common.{rules, Err, ap, refl, ◌∙◌}
+use Rattle.std.proofs.lemmas.Result.{err_from_is_err_and}
+use Rattle.type_terms.specs.Declarations.{constant_of}
+use Rattle.decl_spelling.specs.Constants.{basic_type}
+use Rattle.decl_spelling.specs.Declarations.{read}
+use Rattle.decl_spelling.specs.Tables.{type_named}
+use Rattle.decl_reader.specs.declared.fault.DeclFault.{DeclFault}
+use Rattle.decl_reader.specs.Faults.{of_read}
+use Rattle.decl_reader.specs.Blocks.{table_of}
+use Rattle.decl_reader.specs.Calls.{sections_of, ahead_of}
+use Rattle.decl_reader.specs.Wholes.{value_by}
+use Rattle.decl_reader.proofs.DescentLoop.{never_full}
+use Rattle.decl_reader.proofs.WholeLemmas.{value_then, then_fault, fault_as}
+use Rattle.decl_reader.proofs.reading.Reading.read_rest.Goals as goal
+
+pub returns-in_err-value-in-Constant-clause-exact : goal.returns-in_err-value-in-Constant-clause-exact
+returns-in_err-value-in-Constant-clause-exact g c =
+    let src = sections_of c.args.parts.now in
+    let done = table_of c.args.self.now.arena.now.nodes c.args.self.now.table.now in
+    let basics = g.B.Basics.meaning c.args.basics.now in
+    let a = ahead_of c.args.block.now in
+    let k = c.in-Constant in
+    let p = err_from_is_err_and c.from_residual-in_err-value-in-Constant.result c.from_residual-in_err-value-in-Constant.ensures.1 in
+    rw (p.1, p.2, k.is) (fault_as _ _ (of_read c.in_err-value-in-Constant.field-0.0) (value_then src basics k.pos k.ty k.at a done)
+    (then_fault (value_by src k.at (basic_type basics (type_named src.version done k.ty)) a) (λ value. read (constant_of k.pos k.ty value.0) value.1 done) (of_read c.in_err-value-in-Constant.field-0.0) c.in_err-value-in-Constant.ensures))
+
+pub returns-in_err-value-in-Constant-clause-goes_on : goal.returns-in_err-value-in-Constant-clause-goes_on
+returns-in_err-value-in-Constant-clause-goes_on g c =
+    let p = err_from_is_err_and c.from_residual-in_err-value-in-Constant.result c.from_residual-in_err-value-in-Constant.ensures.1 in
+    record {
+      adds = record {
+        extends = search rules;
+        full = λ wants. absurd (never_full c.from_residual-in_err-value-in-Constant.result c.in_err-value-in-Constant.field-0.0 (p.1 ∙ ap (λ (e : DeclFault). Err e) p.2) wants);
+        same_table = refl;
+        same_arena = refl;
+        same_steps = refl;
+      };
+      ready = c.requires.ready;
+      counted = refl;
+    }

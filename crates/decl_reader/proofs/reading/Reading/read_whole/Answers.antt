@@ -1,0 +1,113 @@
+use Rattle.std.proofs.Common.{◌≡◌, ◌+◌, ◌-◌, sym, ◌∙◌, ap, refl, arith}
+use Rattle.std.proofs.lemmas.Result.{err_from_is_err_and}
+use Rattle.wire_bytes.specs.Reading.{place}
+use Rattle.decl_spelling.specs.Declarations.{Read}
+use Rattle.decl_reader.specs.Blocks.{table_of}
+use Rattle.decl_reader.specs.Calls.{sections_of, ahead_of}
+use Rattle.decl_reader.specs.Forms.{head_shape, decl_form}
+use Rattle.decl_reader.proofs.BegunLemmas.{body_length}
+use Rattle.decl_reader.proofs.CountsLemmas.{counts_first, counts_twice, counts_most, if_either, lies_in, reached_is, reached_most, counts_reached}
+use Rattle.decl_reader.proofs.WholeLemmas.{first_is, whole_read, first_faults, rest_faults, kept_is, fault_as}
+use Rattle.decl_reader.proofs.reading.Reading.read_whole.Goals as goal
+
+pub returns-in_err-head-clause-exact : goal.returns-in_err-head-clause-exact
+returns-in_err-head-clause-exact g c =
+    let src = sections_of c.args.parts.now in
+    let basics = g.B.Basics.meaning c.args.basics.now in
+    let p = err_from_is_err_and c.from_residual.result c.from_residual.ensures.1 in
+    let same = first_is src basics c.args.offset (ahead_of c.args.block.now) _ _ c.requires.block (body_length c.args.parts.now c.requires.of_file) (ap (table_of c.args.self.now.arena.now.nodes) c.requires.empty) in
+    rw (p.1, p.2) (first_faults src basics c.args.offset c.in_err-head.field-0.0 (fault_as _ _ c.in_err-head.field-0.0 same c.in_err-head.ensures.exact))
+
+pub returns-in_err-whole-clause-exact : goal.returns-in_err-whole-clause-exact
+returns-in_err-whole-clause-exact g c =
+    let src = sections_of c.args.parts.now in
+    let basics = g.B.Basics.meaning c.args.basics.now in
+    let p = err_from_is_err_and c.from_residual-in_err-whole.result c.from_residual-in_err-whole.ensures.1 in
+    let same = first_is src basics c.args.offset (ahead_of c.args.block.now) _ _ c.requires.block (body_length c.args.parts.now c.requires.of_file) (ap (table_of c.args.self.now.arena.now.nodes) c.requires.empty) in
+    rw (p.1, p.2) (rest_faults src basics c.args.offset (head_shape c.in_ok-head.head) _ _ c.in_err-whole.field-0.0 (sym same ∙ c.in_ok-head.ensures.exact) c.in_err-whole.ensures.exact)
+
+pub returns-clause-exact : goal.returns-clause-exact
+returns-clause-exact g c =
+    let src = sections_of c.args.parts.now in
+    let basics = g.B.Basics.meaning c.args.basics.now in
+    let same = first_is src basics c.args.offset (ahead_of c.args.block.now) _ _ c.requires.block (body_length c.args.parts.now c.requires.of_file) (ap (table_of c.args.self.now.arena.now.nodes) c.requires.empty) in
+    kept_is src basics c.args.offset (head_shape c.in_ok-head.head) _ _ _ c.add_declaration.new.arena.nodes c.add_declaration.result (sym same ∙ c.in_ok-head.ensures.exact) c.in_ok-whole.ensures.exact
+    c.add_declaration.ensures.denotes c.add_declaration.ensures.only_memory
+
+pub returns-in_err-head-clause-at_most : goal.returns-in_err-head-clause-at_most
+returns-in_err-head-clause-at_most g c =
+    let size = body_length c.args.parts.now c.requires.of_file in
+    let counts = counts_first c.args.self.now.steps.now c.read_head_types.new.self.steps.now c.args.self.now.table.now c.read_head_types.new.self.table.now c.requires.empty c.read_head_types.ensures.goes_on.counted in
+    omega (arith, size, counts_most _ _ c.args.self.now.steps.now c.read_head_types.new.self.steps.now c.read_head_types.new.self.table.now c.read_head_types.ensures.goes_on.ready counts)
+
+pub returns-in_err-whole-clause-at_most : goal.returns-in_err-whole-clause-at_most
+returns-in_err-whole-clause-at_most g c =
+    let size = body_length c.args.parts.now c.requires.of_file in
+    let entries = c.read_rest.new.self.table.now in
+    let counts = counts_first c.args.self.now.steps.now c.read_rest.new.self.steps.now c.args.self.now.table.now entries c.requires.empty
+    (counts_twice c.args.self.now.steps.now c.read_head_types.new.self.steps.now c.read_rest.new.self.steps.now c.args.self.now.table.now c.read_head_types.new.self.table.now entries c.read_head_types.ensures.goes_on.counted c.read_rest.ensures.goes_on.counted) in
+    omega (arith, size, counts_most _ _ c.args.self.now.steps.now c.read_rest.new.self.steps.now entries c.read_rest.ensures.goes_on.ready counts)
+
+pub overflow_sub-end : goal.overflow_sub-end
+overflow_sub-end g c =
+    let p = c.args.parts.now in
+    let src = sections_of p in
+    let basics = g.B.Basics.meaning c.args.basics.now in
+    let size = body_length p c.requires.of_file in
+    let same = first_is src basics c.args.offset (ahead_of c.args.block.now) _ _ c.requires.block size (ap (table_of c.args.self.now.arena.now.nodes) c.requires.empty) in
+    let nodes = c.read_rest.new.self.arena.now.nodes in
+    let entries = c.read_rest.new.self.table.now in
+    let x : Read = record { form = decl_form c.in_ok-whole.whole; end = place (ahead_of c.read_rest.new.block).spot; table = table_of nodes entries } in
+    let is = whole_read src basics c.args.offset (head_shape c.in_ok-head.head) _ _ x (sym same ∙ c.in_ok-head.ensures.exact) c.in_ok-whole.ensures.exact in
+    let lies = lies_in src basics c.requires.bytes c.args.offset x is in
+    omega (arith, lies.0, c.place.ensures.place)
+
+pub overflow_sub-end-2 : goal.overflow_sub-end-2
+overflow_sub-end-2 g c =
+    let p = c.args.parts.now in
+    let src = sections_of p in
+    let basics = g.B.Basics.meaning c.args.basics.now in
+    let size = body_length p c.requires.of_file in
+    let same = first_is src basics c.args.offset (ahead_of c.args.block.now) _ _ c.requires.block size (ap (table_of c.args.self.now.arena.now.nodes) c.requires.empty) in
+    let nodes = c.read_rest.new.self.arena.now.nodes in
+    let entries = c.read_rest.new.self.table.now in
+    let x : Read = record { form = decl_form c.in_ok-whole.whole; end = place (ahead_of c.read_rest.new.block).spot; table = table_of nodes entries } in
+    let is = whole_read src basics c.args.offset (head_shape c.in_ok-head.head) _ _ x (sym same ∙ c.in_ok-head.ensures.exact) c.in_ok-whole.ensures.exact in
+    let lies = lies_in src basics c.requires.bytes c.args.offset x is in
+    omega (arith, lies.0, c.place.ensures.place)
+
+pub returns-clause-counted : goal.returns-clause-counted
+returns-clause-counted g c =
+    let p = c.args.parts.now in
+    let src = sections_of p in
+    let basics = g.B.Basics.meaning c.args.basics.now in
+    let size = body_length p c.requires.of_file in
+    let same = first_is src basics c.args.offset (ahead_of c.args.block.now) _ _ c.requires.block size (ap (table_of c.args.self.now.arena.now.nodes) c.requires.empty) in
+    let nodes = c.read_rest.new.self.arena.now.nodes in
+    let entries = c.read_rest.new.self.table.now in
+    let x : Read = record { form = decl_form c.in_ok-whole.whole; end = place (ahead_of c.read_rest.new.block).spot; table = table_of nodes entries } in
+    let is = whole_read src basics c.args.offset (head_shape c.in_ok-head.head) _ _ x (sym same ∙ c.in_ok-head.ensures.exact) c.in_ok-whole.ensures.exact in
+    let counts = counts_first c.args.self.now.steps.now c.read_rest.new.self.steps.now c.args.self.now.table.now entries c.requires.empty
+    (counts_twice c.args.self.now.steps.now c.read_head_types.new.self.steps.now c.read_rest.new.self.steps.now c.args.self.now.table.now c.read_head_types.new.self.table.now entries c.read_head_types.ensures.goes_on.counted c.read_rest.ensures.goes_on.counted) in
+    let more = c.place.result - p.body_at - c.args.offset in
+    let own : more ≡ x.end - (src.body_at + c.args.offset) = omega (arith, c.place.ensures.place) in
+    let risen = reached_is src basics c.requires.bytes c.args.offset x is nodes entries c.args.self.now.steps.now c.read_rest.new.self.steps.now c.add.new.self more refl counts c.add.ensures own in
+    if_either c.add_declaration.result (counts_reached src basics c.requires.bytes c.args.offset x is c.args.self.now.steps.now c.add.new.self risen)
+
+pub returns-clause-at_most : goal.returns-clause-at_most
+returns-clause-at_most g c =
+    let p = c.args.parts.now in
+    let src = sections_of p in
+    let basics = g.B.Basics.meaning c.args.basics.now in
+    let size = body_length p c.requires.of_file in
+    let same = first_is src basics c.args.offset (ahead_of c.args.block.now) _ _ c.requires.block size (ap (table_of c.args.self.now.arena.now.nodes) c.requires.empty) in
+    let nodes = c.read_rest.new.self.arena.now.nodes in
+    let entries = c.read_rest.new.self.table.now in
+    let x : Read = record { form = decl_form c.in_ok-whole.whole; end = place (ahead_of c.read_rest.new.block).spot; table = table_of nodes entries } in
+    let is = whole_read src basics c.args.offset (head_shape c.in_ok-head.head) _ _ x (sym same ∙ c.in_ok-head.ensures.exact) c.in_ok-whole.ensures.exact in
+    let counts = counts_first c.args.self.now.steps.now c.read_rest.new.self.steps.now c.args.self.now.table.now entries c.requires.empty
+    (counts_twice c.args.self.now.steps.now c.read_head_types.new.self.steps.now c.read_rest.new.self.steps.now c.args.self.now.table.now c.read_head_types.new.self.table.now entries c.read_head_types.ensures.goes_on.counted c.read_rest.ensures.goes_on.counted) in
+    let more = c.place.result - p.body_at - c.args.offset in
+    let own : more ≡ x.end - (src.body_at + c.args.offset) = omega (arith, c.place.ensures.place) in
+    let risen = reached_is src basics c.requires.bytes c.args.offset x is nodes entries c.args.self.now.steps.now c.read_rest.new.self.steps.now c.add.new.self more refl counts c.add.ensures own in
+    omega (arith, size, risen, reached_most src basics c.requires.bytes c.args.offset x is)
