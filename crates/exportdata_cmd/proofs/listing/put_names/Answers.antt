@@ -1,8 +1,8 @@
 use Rattle.std.proofs.Common.{◌≤◌, length, Err, ◌∙◌, ap, arith}
 use Rattle.std.proofs.lemmas.Result.{err_from_is_err_and}
 use Rattle.exportdata_cmd.specs.Listing.{entries_at}
-use Rattle.exportdata_cmd.proofs.Indexed.{line_of_name, name_lines_are, found_name, count_there}
-use Rattle.exportdata_cmd.proofs.Puts.{puts_as, loop_goes_on, loop_stops, loop_ends}
+use Rattle.exportdata_cmd.proofs.ListingLemmas.{line_of_name, name_lines_are, found_name, count_there}
+use Rattle.exportdata_cmd.proofs.PuttingLemmas.{puts_as, loop_goes_on, loop_stops, loop_ends}
 use Rattle.exportdata_cmd.proofs.listing.put_names.Goals as goal
 
 pub returns-in_err-put_name : goal.returns-in_err-put_name

@@ -2,8 +2,8 @@ use Rattle.std.proofs.Common.{◌∷◌, [], ◌∙◌, ap, refl, Err}
 use Rattle.std.proofs.lemmas.Result.{err_from_is_err_and}
 use Rattle.exportdata_cmd.specs.Printed.{package_line}
 use Rattle.exportdata_cmd.specs.Listing.{entries_at, name_lines}
-use Rattle.exportdata_cmd.proofs.Indexed.{found_package}
-use Rattle.exportdata_cmd.proofs.Puts.{puts_as, puts_then, puts_fewer}
+use Rattle.exportdata_cmd.proofs.ListingLemmas.{found_package}
+use Rattle.exportdata_cmd.proofs.PuttingLemmas.{puts_as, puts_then, puts_fewer}
 use Rattle.exportdata_cmd.proofs.listing.put_package.Goals as goal
 
 pub returns-in_err-put_heading : goal.returns-in_err-put_heading

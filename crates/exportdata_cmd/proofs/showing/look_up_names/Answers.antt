@@ -4,7 +4,7 @@ use Rattle.command_words.specs.Texts.{Name}
 use Rattle.command_words.specs.Forms.{name_of, names_of}
 use Rattle.session.specs.Asked.{read_by}
 use Rattle.exportdata_cmd.specs.LookedUp.{OnlyRead}
-use Rattle.exportdata_cmd.proofs.Shown.{where_no_error, looks_on, reads_on}
+use Rattle.exportdata_cmd.proofs.LookedUpLemmas.{where_no_error, looks_on, reads_on}
 use Rattle.exportdata_cmd.proofs.showing.look_up_names.Goals as goal
 
 pub loop-k-preserved : goal.loop-k-preserved

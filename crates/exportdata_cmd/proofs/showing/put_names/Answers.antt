@@ -4,8 +4,8 @@ use Rattle.std.proofs.lemmas.Result.{err_from_is_err_and}
 use Rattle.command_words.specs.Forms.{name_of, names_of}
 use Rattle.session.specs.Asked.{read_by}
 use Rattle.exportdata_cmd.specs.LookedUp.{answered}
-use Rattle.exportdata_cmd.proofs.Shown.{lines_of_answer, texts_are, found_pair, pair_count}
-use Rattle.exportdata_cmd.proofs.Puts.{puts_as, loop_goes_on, loop_stops, loop_ends}
+use Rattle.exportdata_cmd.proofs.LookedUpLemmas.{lines_of_answer, texts_are, found_pair, pair_count}
+use Rattle.exportdata_cmd.proofs.PuttingLemmas.{puts_as, loop_goes_on, loop_stops, loop_ends}
 use Rattle.exportdata_cmd.proofs.showing.put_names.Goals as goal
 
 pub returns-in_err-put_answer : goal.returns-in_err-put_answer

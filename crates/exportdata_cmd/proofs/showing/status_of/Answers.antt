@@ -1,7 +1,7 @@
 use Rattle.std.proofs.Common.{◌∙◌, sym, ap, Some, arith, add-one}
 use Rattle.std.proofs.lemmas.Option.{slice_get-get_or}
 use Rattle.exportdata_cmd.specs.declared.showing.LookedUp.{LookedUp}
-use Rattle.exportdata_cmd.proofs.Shown.{goes_on_at, refused_at, nothing_left}
+use Rattle.exportdata_cmd.proofs.LookedUpLemmas.{goes_on_at, refused_at, nothing_left}
 use Rattle.exportdata_cmd.proofs.showing.status_of.Goals as goal
 
 pub returns-in-Unknown : goal.returns-in-Unknown

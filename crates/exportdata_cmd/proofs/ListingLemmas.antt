@@ -1,5 +1,6 @@
 -- What a look-up in an index says of its lists.
-use Rattle.std.proofs.Common.{unwrap_or, ◌≡◌, ◌<◌, arith, ℕ, suc, zero, List, [], ◌∷◌, ◌++◌, length, Option, None, Some, slice_get, refl, sym, ap}
+use Rattle.std.proofs.Common.{unwrap_or, ◌≡◌, ◌<◌, arith, ℕ, suc, zero, List, [], ◌∷◌, ◌++◌, length, Option, None, Some}
+use Rattle.std.proofs.Common.{slice_get, refl, sym, ap}
 use Rattle.std.specs.List.{flat_map}
 use Rattle.std.specs.Option.{option_map, option_map_or, option_and_then}
 use Rattle.std.proofs.lemmas.List.Concat.{flat_map_single}
@@ -31,7 +32,8 @@ found_in None j name offset e = cc
 found_in (Some p) j name offset e = found_entry (slice_get p.entries j) name offset e
 
 -- a name that is found
-pub found_name : (packages : List Package) (k j : ℕ) (name : List ℕ) (offset : ℕ) → Some (name, offset) ≡ name_at packages k j
+pub found_name : (packages : List Package) (k j : ℕ) (name : List ℕ) (offset : ℕ)
+    → Some (name, offset) ≡ name_at packages k j
     → slice_get (entries_at packages k) j ≡ Some (record { name = name; offset = offset })
 found_name packages k j name offset e = found_in (slice_get packages k) j name offset e
 
@@ -57,7 +59,8 @@ package_there [] k below = absurd (omega arith)
 package_there (p ∷ packages) zero below = (p, refl, refl)
 package_there (p ∷ packages) (suc k) below = package_there packages k (omega arith)
 
-counted : (o : Option Package) → unwrap_or (option_map (λ p. length p.entries) o) 0 ≡ length (option_map_or (λ p. p.entries) o [])
+counted : (o : Option Package)
+    → unwrap_or (option_map (λ p. length p.entries) o) 0 ≡ length (option_map_or (λ p. p.entries) o [])
 counted None = refl
 counted (Some p) = refl
 
