@@ -2,10 +2,9 @@
 use Rattle.std.proofs.Common.{◌≡◌, ◌++◌, ◌≢◌, ℕ, ◌⊎◌, inl, inr, false, true, List, [], ◌∷◌, take, Option, None, Some}
 use Rattle.std.proofs.Common.{IsSome, Result, Ok, Err, refl, sym, ◌∙◌, ap, subst}
 use Rattle.std.specs.Prelude.{codes}
-use Rattle.std.specs.List.{concat}
 use Rattle.outside.specs.Counts.{Rose}
 use Rattle.outside.specs.Files.{Held}
-use Rattle.outside.specs.Sinks.{SinkState, Wrote, WroteSome}
+use Rattle.outside.specs.Sinks.{SinkState, Wrote}
 use Rattle.command_words.specs.Texts.{Word, Source}
 use Rattle.command_words.specs.Forms.{Request, list, show, IsForm, IsWrongWord}
 use Rattle.command_words.proofs.OneReading.{one_request}
@@ -13,14 +12,13 @@ use Rattle.wire_bytes.specs.FaultText.{fault_text}
 use Rattle.decl_text.specs.Printed.{printed}
 use Rattle.name_index.specs.FullFile.{FullFile}
 use Rattle.exportdata_cmd.specs.Printed.{Line, line}
-use Rattle.exportdata_cmd.specs.Endings.{Ending, output_end, cannot_read_end, no_memory_end, end_of}
+use Rattle.exportdata_cmd.specs.Endings.{Ending, output_end, end_of}
 use Rattle.exportdata_cmd.specs.Sources.{SourceFault, missing, too_long, breach, Opens, source_end}
-use Rattle.exportdata_cmd.specs.Putting.{PutsLines}
 use Rattle.exportdata_cmd.specs.Due.{source_asked, Yields, Due}
 use Rattle.exportdata_cmd.specs.Running.{AreFirstDue, MayEnd, EndedAs, BrokeOff, FellShort, ReportsOf}
 use Rattle.exportdata_cmd.specs.Carried.{GivesOne, Refuses, Halted, Answered, IsOpened, Owes, Carried}
 use Rattle.exportdata_cmd.specs.declared.exits.Status.{Status}
-use Rattle.exportdata_cmd.specs.declared.exits.Status.TheVariants.{Done, Refused, Files, Memory, Output as OutputStatus}
+use Rattle.exportdata_cmd.specs.declared.exits.Status.TheVariants.{Done, Refused, Files, Output as OutputStatus}
 use Rattle.exportdata_cmd.specs.declared.error_line.ErrorLine.{ErrorLine}
 use Rattle.exportdata_cmd.specs.declared.error_line.ErrorLine.TheVariants.{WrongWord, Missing, CannotRead, Damaged}
 use Rattle.exportdata_cmd.specs.declared.error_line.ErrorLine.TheVariants.{LimitBytes, LimitNodes, NoMemory}
@@ -139,6 +137,15 @@ never_ended words held before after status out out_after (request, image, here, 
       | inr refused ↦ not_refused (sym is ∙ refused)
     ]
 
+-- the end that a run came to is what was due, or fell short
+completed : (words : List Word) (end due : Ending) (status : Status) (out out_after err err_after : SinkState)
+    → EndedAs end status out out_after err err_after → (end ≡ due) ⊎ FellShort words end.status
+    → EndedAs due status out out_after err err_after ⊎ FellShort words status
+completed words end due status out out_after err err_after is (inl same) =
+    inl (subst (λ e. EndedAs e status out out_after err err_after) same is)
+completed words end due status out out_after err err_after is (inr short) =
+    inr (subst (λ s. FellShort words s) (sym is.its_status) short)
+
 image_is : (a b : FullFile) → ◌≡◌ {A = Result FullFile SourceFault} (Ok a) (Ok b) → a ≡ b
 image_is a b e = cc
 
@@ -150,15 +157,17 @@ opened_once words files request image here end other seen asked opens yields =
     let same = one_opening files (source_asked request) (Ok seen) (Ok image) seen_here here.opened in
     subst GivesOne (sym (image_is seen image same)) here.one
 
-pub ended_complete : (words : List Word) (held : Option Held) (before after : ℕ) (status : Status) (out out_after : SinkState)
+pub ended_complete : (words : List Word) (held : Option Held) (before after : ℕ) (status : Status)
+    (out out_after err : SinkState)
     → Carried words held before after (Ok status) out out_after → (due : Ending) → Due words held due → IsSome held
-    → (Rose before after → ⊥) → (status ≡ due.status) ⊎ FellShort words status
-ended_complete words None before after status out out_after done due is told readable = let e : false ≡ true = told in absurd cc
-ended_complete words (Some files) before after status out out_after (request, image, here, (lines, yields, wrote)) due is told readable =
+    → (Rose before after → ⊥) → EndedAs due status out out_after err err ⊎ FellShort words status
+ended_complete words None before after status out out_after err done due is told readable = let e : false ≡ true = told in absurd cc
+ended_complete words (Some files) before after status out out_after err (request, image, here, (lines, yields, wrote)) due is told readable =
     let end = output_end status lines in
-    complete words (Some files) before after end due
-    (inl (due_lines words (Some files) before after out out_after request image here end yields))
-    (opened_once words files request image here end) is told readable
+    let may = inl (due_lines words (Some files) before after out out_after request image here end yields) in
+    let is_end : EndedAs end status out out_after err err = record { its_status = refl; on_out = wrote; on_err = wrote_nothing err } in
+    completed words end due status out out_after err err is_end
+    (complete words (Some files) before after end due may (opened_once words files request image here end) is told readable)
 
 -- AN ERROR LINE WAS REPORTED
 
@@ -208,14 +217,15 @@ module _ (words : List Word) (held : Option Held) (before after : ℕ) (error : 
   never_output end (inl is) e = not_output error (sym (ap (λ e. e.status) is) ∙ e)
   never_output end (inr is) e = not_output NoMemory (sym (ap (λ e. e.status) is) ∙ e)
 
+  ended_so : (status : Status) (err err_after : SinkState) (end : Ending) → (status ≡ end.status) × Wrote err err_after end.error
+      → EndedAs (after_lines owes.lines end) status out out_after err err_after
+  ended_so status err err_after end r = record { its_status = r.0; on_out = owes.wrote; on_err = r.1 }
+
   pub reported : (status : Status) (err err_after : SinkState) → ReportsOf error status err err_after
       → status ≢ OutputStatus
       → (end : Ending) × MayEnd words held before after end × EndedAs end status out out_after err err_after
-  reported status err err_after (end, which, inl r) other = (
-    after_lines owes.lines end,
-    may end which,
-    record { its_status = r.0; on_out = owes.wrote; on_err = r.1 },
-  )
+  reported status err err_after (end, which, inl r) other =
+      (after_lines owes.lines end, may end which, ended_so status err err_after end r)
   reported status err err_after (end, which, inr r) other = absurd (other r.0)
 
   pub cut : (status : Status) (err err_after : SinkState) → ReportsOf error status err err_after → status ≡ OutputStatus
@@ -238,9 +248,9 @@ module _ (words : List Word) (held : Option Held) (before after : ℕ) (error : 
 
   pub reported_complete : (status : Status) (err err_after : SinkState) → ReportsOf error status err err_after
       → (due : Ending) → Due words held due → IsSome held → (Rose before after → ⊥) → (Rose err.faults err_after.faults → ⊥)
-      → (status ≡ due.status) ⊎ FellShort words status
+      → EndedAs due status out out_after err err_after ⊎ FellShort words status
   reported_complete status err err_after (end, which, inl r) due is told readable writable =
-      subst (λ s. (s ≡ due.status) ⊎ FellShort words s) (sym r.0)
+      completed words (after_lines owes.lines end) due status out out_after err err_after (ended_so status err err_after end r)
       (complete words held before after (after_lines owes.lines end) due (may end which) (no_lines end which) is told readable)
   reported_complete status err err_after (end, which, inr r) due is told readable writable = absurd (writable r.1.failed)
 

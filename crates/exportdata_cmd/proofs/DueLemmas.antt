@@ -1,6 +1,6 @@
 -- What is due is one thing, where the files are told.
 use Rattle.std.proofs.Common.{◌≡◌, ◌⊎◌, inl, inr, rules, ℕ, ◌<◌, ◌≤◌, List, length, Bool, true, false, Option, Some}
-use Rattle.std.proofs.Common.{None, Result, Ok, Err, refl, sym, ◌∙◌, ap, subst, arith}
+use Rattle.std.proofs.Common.{None, Result, Ok, Err, refl, sym, ◌∙◌, ap, subst}
 use Rattle.std.specs.Prelude.{nat_lt}
 use Rattle.std.specs.FinMap.{get}
 use Rattle.outside.specs.Files.{Held, IsLonger}
@@ -17,7 +17,7 @@ use Rattle.exportdata_cmd.specs.Due.{Asks, source_asked, Yields, DueOf, DueFor, 
 use Rattle.exportdata_cmd.specs.Carried.{GivesOne}
 use Rattle.exportdata_cmd.specs.declared.exits.Status.TheVariants.{Done, Refused}
 use Rattle.exportdata_cmd.specs.declared.opening.TheConstants.{FILE_LIMIT}
-use Rattle.exportdata_cmd.proofs.ShowingLemmas.{one_status, shown_either}
+use Rattle.exportdata_cmd.proofs.ShowingLemmas.{one_shown, shown_either}
 
 -- words ask for one thing, or have one wrong word
 pub one_asking : (words : List Word) (a b : Result Request ℕ) → Asks words a → Asks words b → a ≡ b
@@ -71,7 +71,7 @@ pub one_opening : (files : Held) (source : Source) (a b : Result FullFile Source
     → Opens (Some files) source a → Opens (Some files) source b → a ≡ b
 one_opening files source a b x y = sym (opening_is files source a x) ∙ opening_is files source b y
 
--- ONE STATUS
+-- ONE END
 
 pub yields_either : (image : FullFile) (request : Request) (due : Ending) → Yields image request due
     → (due.status ≡ Done) ⊎ (due.status ≡ Refused)
@@ -84,16 +84,15 @@ yields_either image (show source names) due is =
     ]
 
 one_yield : (image : FullFile) → GivesOne image → (request : Request) (a b : Ending) → Yields image request a
-    → Yields image request b
-    → a.status ≡ b.status
-one_yield image one (list source) a b x y = ap (λ end. end.status) (x ∙ sym y)
-one_yield image one (show source names) a b x y = one_status image one names a b x y
+    → Yields image request b → a ≡ b
+one_yield image one (list source) a b x y = x ∙ sym y
+one_yield image one (show source names) a b x y = one_shown image one names a b x y
 
 -- of what is due once the source is open or has a fault, where names give one outcome
 one_due_of : (request : Request) (r : Result FullFile SourceFault) (a b : Ending)
     → ((image : FullFile) → r ≡ Ok image → Yields image request a → GivesOne image) → DueOf request r a → DueOf request r b
-    → a.status ≡ b.status
-one_due_of request (Err fault) a b one x y = ap (λ end. end.status) (x ∙ sym y)
+    → a ≡ b
+one_due_of request (Err fault) a b one x y = x ∙ sym y
 one_due_of request (Ok image) a b one x y = one_yield image (one image refl x) request a b x y
 
 -- The names of the open source of this end give one outcome each.
@@ -103,13 +102,12 @@ OneOutcome words held end =
     → Yields image request end → GivesOne image
 
 pub one_due : (words : List Word) (files : Held) (a b : Ending) → OneOutcome words (Some files) a
-    → Due words (Some files) a → Due words (Some files) b → a.status ≡ b.status
+    → Due words (Some files) a → Due words (Some files) b → a ≡ b
 one_due words files a b one (asked, asks, x) (other, asks_other, y) =
     same asked asks x (subst (λ r. DueFor r (Some files) b) (one_asking words other asked asks_other asks) y)
   where
-    same : (asked : Result Request ℕ) → Asks words asked → DueFor asked (Some files) a → DueFor asked (Some files) b
-        → a.status ≡ b.status
-    same (Err number) asks x y = ap (λ end. end.status) (x ∙ sym y)
+    same : (asked : Result Request ℕ) → Asks words asked → DueFor asked (Some files) a → DueFor asked (Some files) b → a ≡ b
+    same (Err number) asks x y = x ∙ sym y
     same (Ok request) asks (r, opens, x) (s, opens_other, y) =
         let joined = one_opening files (source_asked request) s r opens_other opens in
         one_due_of request r a b

@@ -1,6 +1,6 @@
 -- How a run ends, and what it leaves where it is complete.
-use Rattle.std.proofs.Common.{◌≡◌, ℕ, ◌⊎◌, inl, inr, List, [], false, true, Option, None, Some, IsSome, Result, Ok, Err}
-use Rattle.std.proofs.Common.{refl, sym, ◌∙◌, ap, subst}
+use Rattle.std.proofs.Common.{◌≡◌, ℕ, ◌⊎◌, inl, inr, List, false, true, Option, None, Some, IsSome, Result, Ok, Err}
+use Rattle.std.proofs.Common.{sym, ◌∙◌, ap, subst}
 use Rattle.outside.specs.Counts.{Rose}
 use Rattle.outside.specs.Files.{Held}
 use Rattle.command_words.specs.Texts.{Word}
@@ -8,7 +8,7 @@ use Rattle.command_words.specs.Forms.{Request}
 use Rattle.name_index.specs.FullFile.{FullFile}
 use Rattle.exportdata_cmd.specs.Endings.{Ending}
 use Rattle.exportdata_cmd.specs.Sources.{SourceFault, missing, too_long, breach}
-use Rattle.exportdata_cmd.specs.Due.{source_asked, DueOf, DueFor, Due}
+use Rattle.exportdata_cmd.specs.Due.{DueOf, DueFor, Due}
 use Rattle.exportdata_cmd.specs.Running.{MayEnd, FellShort}
 use Rattle.exportdata_cmd.specs.declared.exits.Status.{Status}
 use Rattle.exportdata_cmd.specs.declared.exits.Status.TheVariants.{Done, Refused, Files, Memory, Limit}
@@ -48,7 +48,7 @@ fell words a b is short = subst (λ s. FellShort words s) (sym is) short
 pub complete : (words : List Word) (held : Option Held) (before after : ℕ) (end due : Ending)
     → MayEnd words held before after end
     → OneOutcome words held end → Due words held due → IsSome held → (Rose before after → ⊥)
-    → (end.status ≡ due.status) ⊎ FellShort words end.status
+    → (end ≡ due) ⊎ FellShort words end.status
 complete words None before after end due may one is told readable = let e : false ≡ true = told in absurd cc
 complete words (Some files) before after end due (inl is_due) one is told readable = inl (one_due words files end due one is_due is)
 complete words (Some files) before after end due (inr (inl starved)) one is told readable =

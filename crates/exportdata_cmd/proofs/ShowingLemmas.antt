@@ -1,10 +1,17 @@
 -- What names are is one thing, and what was looked up is it.
-use Rattle.std.proofs.Common.{◌≡◌, ◌↔◌, ◌⊎◌, inl, inr, ℕ, zero, suc, ◌<◌, List, [], ◌∷◌, ◌++◌, length, map, Some, Ok}
+use Rattle.std.proofs.Common.{◌≡◌, ◌↔◌, ◌⊎◌, inl, inr, ℕ, zero, suc, ◌<◌, ◌≤◌, true, List, [], ◌∷◌, ◌++◌, length, map, Some, Ok}
 use Rattle.std.proofs.Common.{Err, refl, sym, ◌∙◌, ap, subst, arith}
 use Rattle.std.specs.Prelude.{get_or}
 use Rattle.std.specs.List.{AllByRecursion, Contains}
 use Rattle.std.specs.List.Sorted.{IsStrictlySortedBy}
-use Rattle.std.specs.Ordering.{nat_cmp}
+use Rattle.std.specs.Ordering.{nat_cmp, is_eq, eq_by_cmp}
+use Rattle.std.specs.declared.cmp.Ordering.{Ordering}
+use Rattle.std.specs.declared.cmp.Ordering.TheVariants.{Less, Equal, Greater}
+use Rattle.std.proofs.lemmas.Cmp.{nat_cmp_total, eq_by_cmp_equiv}
+use Rattle.std.proofs.lemmas.Map.Lookups.{exact_unsigned}
+use Rattle.std.proofs.lemmas.Map.Keys.{IsDistinct-from_sorted}
+use Rattle.std.proofs.lemmas.Map.Made.{length-le_from_is_member}
+use Rattle.std.proofs.lemmas.Map.Views.{list_any-from_Contains, Contains-from_any}
 use Rattle.wire_bytes.specs.declared.fault.ByteFault.{ByteFault}
 use Rattle.type_terms.specs.Declarations.{Decl}
 use Rattle.command_words.specs.Texts.{Name}
@@ -13,9 +20,9 @@ use Rattle.name_index.specs.Envelope.{Envelope}
 use Rattle.session.specs.Answers.{Outcome, HasOutcome}
 use Rattle.session.specs.Asked.{read_for, declared_numbers}
 use Rattle.session.proofs.Outcomes.{one_outcome}
-use Rattle.exportdata_cmd.specs.Endings.{output_end}
+use Rattle.exportdata_cmd.specs.Endings.{Ending, output_end}
 use Rattle.exportdata_cmd.specs.Showing.{Answer, unknown, damaged, declared, IsAnswer, answer_texts, decoded_line}
-use Rattle.exportdata_cmd.specs.Showing.{AreDecoded, shown_status, Shows}
+use Rattle.exportdata_cmd.specs.Showing.{AreDecoded, shown_status, shown_end, Shows}
 use Rattle.exportdata_cmd.specs.LookedUp.{answered, IsLookedUp, AreLookedUp, OnlyRead}
 use Rattle.exportdata_cmd.specs.Carried.{GivesOne}
 use Rattle.exportdata_cmd.specs.declared.exits.Status.{Status}
@@ -36,6 +43,33 @@ pub gives_one : (own bytes : List ℕ) (image : FullFile) → Envelope own bytes
     → GivesOne image
 gives_one own bytes image envelope each =
     one_outcome own bytes image (subst (AllByRecursion (λ b. b < 256)) envelope.whole (all_bytes image.bytes each)) envelope
+
+-- ONE COUNT
+
+same_number : (x y : ℕ) → eq_by_cmp nat_cmp x y ≡ true → x ≡ y
+same_number x y e = exact_unsigned x y (equal (nat_cmp x y) e)
+  where
+    equal : (o : Ordering) → is_eq o ≡ true → o ≡ Equal
+    equal Less e = absurd cc
+    equal Equal e = refl
+    equal Greater e = absurd cc
+
+no_more : (xs ys : List ℕ) → IsStrictlySortedBy nat_cmp xs → ((n : ℕ) → Contains xs n → Contains ys n) → length xs ≤ length ys
+no_more xs ys sorted among =
+    let same = eq_by_cmp_equiv nat_cmp_total in
+    length-le_from_is_member same xs ys (IsDistinct-from_sorted nat_cmp xs sorted)
+    (λ n has. list_any-from_Contains same n ys (among n (Contains-from_any same_number n xs has)))
+
+-- each name that is asked for and declared is counted once
+one_count : (image : FullFile) (names : List Name) (m n : ℕ) → AreDecoded image names m → AreDecoded image names n → m ≡ n
+one_count image names m n x y =
+    let some : length x.numbers ≤ length y.numbers =
+    no_more x.numbers y.numbers x.in_order (λ n has. (y.each n).1 ((x.each n).0 has)) in
+    let others : length y.numbers ≤ length x.numbers =
+    no_more y.numbers x.numbers y.in_order (λ n has. (x.each n).1 ((y.each n).0 has)) in
+    let first = x.counted in
+    let second = y.counted in
+    omega arith
 
 not_damaged : (decl : Decl) (fault : ByteFault) → ◌≡◌ {A = Outcome} (Ok decl) (Err fault) → ⊥
 not_damaged decl fault e = cc
@@ -72,11 +106,13 @@ module _ (image : FullFile) (one : GivesOne image) where
       let rest = one_list xs ys tail x.1 y.1 in
       λ i. (head i, answer i) ∷ rest i
 
-  -- what the names are has one status
-  pub one_status : (names : List Name) (a b : _) → Shows image names a → Shows image names b → a.status ≡ b.status
-  one_status names a b x y =
+  -- what the names are is shown in one way
+  pub one_shown : (names : List Name) (a b : Ending) → Shows image names a → Shows image names b → a ≡ b
+  one_shown names a b x y =
       let same = one_list x.answers y.answers (x.for_names ∙ sym y.for_names) x.right y.right in
-      ap (λ end. end.status) x.shown ∙ ap shown_status same ∙ sym (ap (λ end. end.status) y.shown)
+      let count = one_count image names x.count y.count x.decoded y.decoded in
+      let ends : shown_end image x.answers x.count ≡ shown_end image y.answers y.count = λ i. shown_end image (same i) (count i) in
+      x.shown ∙ ends ∙ sym y.shown
 
 pub shown_either : (answers : List (Name × Answer)) → (shown_status answers ≡ Done) ⊎ (shown_status answers ≡ Refused)
 shown_either [] = inl refl

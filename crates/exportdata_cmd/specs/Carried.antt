@@ -9,7 +9,7 @@ use Rattle.command_words.specs.Forms.{Request, IsForm}
 use Rattle.name_index.specs.FullFile.{FullFile}
 use Rattle.session.specs.Answers.{Outcome, HasOutcome}
 use Rattle.exportdata_cmd.specs.Printed.{Line}
-use Rattle.exportdata_cmd.specs.Endings.{Ending, output_end, cannot_read_end, limit_nodes_end, no_memory_end, end_of}
+use Rattle.exportdata_cmd.specs.Endings.{Ending, output_end, cannot_read_end, no_memory_end, end_of}
 use Rattle.exportdata_cmd.specs.Sources.{SourceFault, Opens, source_end}
 use Rattle.exportdata_cmd.specs.Due.{source_asked, Yields}
 use Rattle.exportdata_cmd.specs.Running.{AreFirstDue, TakesNodes, MayEnd}

@@ -63,12 +63,16 @@ shown_status ((name, unknown) ∷ answers) = Refused
 shown_status ((name, damaged fault) ∷ answers) = Refused
 shown_status ((name, declared decl) ∷ answers) = shown_status answers
 
--- What the names are of an open file, each in their order, and how many are counted: the lines and the status.
+-- the end of a run that shows these answers and counts so many names
+abbrev pub shown_end : FullFile → List (Name × Answer) → ℕ → Ending
+shown_end image answers count =
+    output_end (shown_status answers) (answer_texts answers ++ decoded_line count (length (listed image.packages)) ∷ [])
+
+-- What the names are of an open file, each in their order, and how many are counted.
 pub record Shows (image : FullFile) (names : List Name) (due : Ending) : Type 0 where
   pub answers : List (Name × Answer)
   pub count : ℕ
   pub for_names : map (λ x. x.0) answers ≡ names
   pub right : AllByRecursion (λ x. IsAnswer image x.0 x.1) answers
   pub decoded : AreDecoded image names count
-  pub shown : due ≡ output_end (shown_status answers)
-      (answer_texts answers ++ decoded_line count (length (listed image.packages)) ∷ [])
+  pub shown : due ≡ shown_end image answers count

@@ -1,6 +1,7 @@
 -- What comes of opening a source.
-use Rattle.std.specs.Prelude.{◌≡◌, ℕ, ◌≤◌, List, length, Option, None, Some, Result, Ok, Err, IfSome}
+use Rattle.std.specs.Prelude.{◌≡◌, ℕ, ◌<◌, ◌≤◌, List, length, Option, None, Some, Result, Ok, Err, IfSome}
 use Rattle.std.specs.FinMap.{get}
+use Rattle.std.specs.List.{AllByRecursion}
 use Rattle.outside.specs.Files.{Held, IsLonger}
 use Rattle.command_words.specs.Texts.{Source, source_word}
 use Rattle.wire_bytes.specs.declared.fault.ByteFault.{ByteFault}
@@ -22,6 +23,10 @@ IsTooLong held file = IfSome held (λ files. IsLonger (get files file) FILE_LIMI
 pub record HasBytes (held : Option Held) (file bytes : List ℕ) : Type 0 where
   pub body : HasBody held file (Some bytes)
   pub short : length bytes ≤ FILE_LIMIT
+
+-- each file holds bytes
+abbrev pub HoldBytes : Held → Type 0
+HoldBytes files = (file bytes : List ℕ) → get files file ≡ Some bytes → AllByRecursion (λ b. b < 256) bytes
 
 -- why a source isn't open: its file is missing, too long, or no full file, which has this first breach
 pub data SourceFault : Type 0 where

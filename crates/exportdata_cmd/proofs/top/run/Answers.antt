@@ -8,7 +8,7 @@ pub returns-in-Ok-clause-ends : goal.returns-in-Ok-clause-ends
 returns-in-Ok-clause-ends g c _ = ended _ _ _ _ _ _ _ _ c.in-Ok.ensures.carried
 
 pub returns-in-Ok-clause-complete : goal.returns-in-Ok-clause-complete
-returns-in-Ok-clause-complete g c due is told readable _ _ = ended_complete _ _ _ _ _ _ _ c.in-Ok.ensures.carried due is told readable
+returns-in-Ok-clause-complete g c due is told readable _ _ = ended_complete _ _ _ _ _ _ _ _ c.in-Ok.ensures.carried due is told readable
 
 pub returns-in-Ok-clause-output : goal.returns-in-Ok-clause-output
 returns-in-Ok-clause-output g c is = absurd (never_ended _ _ 0 0 _ _ _ c.in-Ok.ensures.carried Output (λ e. cc) (λ e. cc) is)
