@@ -15,8 +15,8 @@ use Rattle.exportdata_cmd.specs.Printed.{Line, line}
 use Rattle.exportdata_cmd.specs.Endings.{Ending, output_end, end_of}
 use Rattle.exportdata_cmd.specs.Sources.{SourceFault, missing, too_long, breach, Opens, source_end}
 use Rattle.exportdata_cmd.specs.Due.{source_asked, Yields, Due}
-use Rattle.exportdata_cmd.specs.Running.{AreFirstDue, MayEnd, EndedAs, BrokeOff, FellShort, ReportsOf}
-use Rattle.exportdata_cmd.specs.Carried.{GivesOne, Refuses, Halted, Answered, IsOpened, Owes, Carried}
+use Rattle.exportdata_cmd.specs.Running.{AreFirstDue, ReadsDeclarations, TakesNodes, MayEnd, EndedAs, BrokeOff, FellShort}
+use Rattle.exportdata_cmd.specs.Carried.{GivesOne, Refuses, Halted, Answered, IsOpened, Owes, Carried, ReportsOf}
 use Rattle.exportdata_cmd.specs.declared.exits.Status.{Status}
 use Rattle.exportdata_cmd.specs.declared.exits.Status.TheVariants.{Done, Refused, Files, Output as OutputStatus}
 use Rattle.exportdata_cmd.specs.declared.error_line.ErrorLine.{ErrorLine}
@@ -81,6 +81,9 @@ module _ (words : List Word) (held : Option Held) (before after : ℕ) (out out_
   first_lines lines (inl none) = inl none
   first_lines lines (inr (due, n, yields, is)) = inr (due, n, due_lines due yields, is)
 
+  takes : ReadsDeclarations request → TakesNodes words held
+  takes reads = record { request = request; image = image; asked = here.asked; reads = reads; opened = here.opened }
+
   owes_halted : (error : ErrorLine) → Halted image request error out out_after
       → Owes words held before after error out out_after
   owes_halted (WrongWord number) halted = absurd halted
@@ -88,9 +91,9 @@ module _ (words : List Word) (held : Option Held) (before after : ℕ) (out out_
   owes_halted (CannotRead file) halted = absurd halted
   owes_halted (Damaged label fault) halted = absurd halted
   owes_halted LimitBytes halted = absurd halted
-  owes_halted LimitNodes (takes, wrote) = record {
+  owes_halted LimitNodes (reads, wrote) = record {
     lines = [];
-    ends = inr (inr (inr (record { request = request; image = image; asked = here.asked; takes = takes; opened = here.opened; shown = refl })));
+    ends = inr (inr (inr (record { takes = takes reads; shown = refl })));
     first = inl refl;
     wrote = wrote;
   }
@@ -138,13 +141,13 @@ never_ended words held before after status out out_after (request, image, here, 
     ]
 
 -- the end that a run came to is what was due, or fell short
-completed : (words : List Word) (end due : Ending) (status : Status) (out out_after err err_after : SinkState)
-    → EndedAs end status out out_after err err_after → (end ≡ due) ⊎ FellShort words end.status
-    → EndedAs due status out out_after err err_after ⊎ FellShort words status
-completed words end due status out out_after err err_after is (inl same) =
+completed : (words : List Word) (held : Option Held) (end due : Ending) (status : Status) (out out_after err err_after : SinkState)
+    → EndedAs end status out out_after err err_after → (end ≡ due) ⊎ FellShort words held end.status
+    → EndedAs due status out out_after err err_after ⊎ FellShort words held status
+completed words held end due status out out_after err err_after is (inl same) =
     inl (subst (λ e. EndedAs e status out out_after err err_after) same is)
-completed words end due status out out_after err err_after is (inr short) =
-    inr (subst (λ s. FellShort words s) (sym is.its_status) short)
+completed words held end due status out out_after err err_after is (inr short) =
+    inr (subst (λ s. FellShort words held s) (sym is.its_status) short)
 
 image_is : (a b : FullFile) → ◌≡◌ {A = Result FullFile SourceFault} (Ok a) (Ok b) → a ≡ b
 image_is a b e = cc
@@ -160,13 +163,13 @@ opened_once words files request image here end other seen asked opens yields =
 pub ended_complete : (words : List Word) (held : Option Held) (before after : ℕ) (status : Status)
     (out out_after err : SinkState)
     → Carried words held before after (Ok status) out out_after → (due : Ending) → Due words held due → IsSome held
-    → (Rose before after → ⊥) → EndedAs due status out out_after err err ⊎ FellShort words status
+    → (Rose before after → ⊥) → EndedAs due status out out_after err err ⊎ FellShort words held status
 ended_complete words None before after status out out_after err done due is told readable = let e : false ≡ true = told in absurd cc
 ended_complete words (Some files) before after status out out_after err (request, image, here, (lines, yields, wrote)) due is told readable =
     let end = output_end status lines in
     let may = inl (due_lines words (Some files) before after out out_after request image here end yields) in
     let is_end : EndedAs end status out out_after err err = record { its_status = refl; on_out = wrote; on_err = wrote_nothing err } in
-    completed words end due status out out_after err err is_end
+    completed words (Some files) end due status out out_after err err is_end
     (complete words (Some files) before after end due may (opened_once words files request image here end) is told readable)
 
 -- AN ERROR LINE WAS REPORTED
@@ -248,9 +251,9 @@ module _ (words : List Word) (held : Option Held) (before after : ℕ) (error : 
 
   pub reported_complete : (status : Status) (err err_after : SinkState) → ReportsOf error status err err_after
       → (due : Ending) → Due words held due → IsSome held → (Rose before after → ⊥) → (Rose err.faults err_after.faults → ⊥)
-      → EndedAs due status out out_after err err_after ⊎ FellShort words status
+      → EndedAs due status out out_after err err_after ⊎ FellShort words held status
   reported_complete status err err_after (end, which, inl r) due is told readable writable =
-      completed words (after_lines owes.lines end) due status out out_after err err_after (ended_so status err err_after end r)
+      completed words held (after_lines owes.lines end) due status out out_after err err_after (ended_so status err err_after end r)
       (complete words held before after (after_lines owes.lines end) due (may end which) (no_lines end which) is told readable)
   reported_complete status err err_after (end, which, inr r) due is told readable writable = absurd (writable r.1.failed)
 

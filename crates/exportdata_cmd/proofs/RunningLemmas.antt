@@ -42,17 +42,17 @@ unread words held before after end (inr (inr (inr crowded))) files = let e = sym
 
 -- COMPLETENESS
 
-fell : (words : List Word) (a b : Status) → a ≡ b → FellShort words b → FellShort words a
-fell words a b is short = subst (λ s. FellShort words s) (sym is) short
+fell : (words : List Word) (held : Option Held) (a b : Status) → a ≡ b → FellShort words held b → FellShort words held a
+fell words held a b is short = subst (λ s. FellShort words held s) (sym is) short
 
 pub complete : (words : List Word) (held : Option Held) (before after : ℕ) (end due : Ending)
     → MayEnd words held before after end
     → OneOutcome words held end → Due words held due → IsSome held → (Rose before after → ⊥)
-    → (end ≡ due) ⊎ FellShort words end.status
+    → (end ≡ due) ⊎ FellShort words held end.status
 complete words None before after end due may one is told readable = let e : false ≡ true = told in absurd cc
 complete words (Some files) before after end due (inl is_due) one is told readable = inl (one_due words files end due one is_due is)
 complete words (Some files) before after end due (inr (inl starved)) one is told readable =
-    inr (fell words end.status Memory (ap (λ end. end.status) starved.shown) tt)
+    inr (fell words (Some files) end.status Memory (ap (λ end. end.status) starved.shown) tt)
 complete words (Some files) before after end due (inr (inr (inl was_unread))) one is told readable = absurd (readable was_unread.failed)
 complete words (Some files) before after end due (inr (inr (inr crowded))) one is told readable =
-    inr (fell words end.status Limit (ap (λ end. end.status) crowded.shown) (crowded.request, crowded.asked, crowded.takes))
+    inr (fell words (Some files) end.status Limit (ap (λ end. end.status) crowded.shown) crowded.takes)

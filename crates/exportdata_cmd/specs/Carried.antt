@@ -12,8 +12,9 @@ use Rattle.exportdata_cmd.specs.Printed.{Line}
 use Rattle.exportdata_cmd.specs.Endings.{Ending, output_end, cannot_read_end, no_memory_end, end_of}
 use Rattle.exportdata_cmd.specs.Sources.{SourceFault, Opens, source_end}
 use Rattle.exportdata_cmd.specs.Due.{source_asked, Yields}
-use Rattle.exportdata_cmd.specs.Running.{AreFirstDue, TakesNodes, MayEnd}
+use Rattle.exportdata_cmd.specs.Running.{AreFirstDue, ReadsDeclarations, MayEnd}
 use Rattle.exportdata_cmd.specs.declared.exits.Status.{Status}
+use Rattle.exportdata_cmd.specs.declared.exits.Status.TheVariants.{Output as OutputStatus}
 use Rattle.exportdata_cmd.specs.declared.error_line.ErrorLine.{ErrorLine}
 use Rattle.exportdata_cmd.specs.declared.error_line.ErrorLine.TheVariants as errors
 use Rattle.exportdata_cmd.specs.declared.command.Stop.{Stop}
@@ -50,7 +51,7 @@ abbrev pub Halted : FullFile → Request → ErrorLine → SinkState → SinkSta
 Halted image request errors.NoMemory before after =
     (lines : List Line) × Wrote before after (concat lines)
     × ((lines ≡ []) ⊎ ((due : Ending) × (n : ℕ) × Yields image request due × (lines ≡ take n due.output)))
-Halted image request errors.LimitNodes before after = TakesNodes request × Wrote before after []
+Halted image request errors.LimitNodes before after = ReadsDeclarations request × Wrote before after []
 Halted image request _ before after = ⊥
 
 abbrev pub Answered : FullFile → Request → Result Status Stop → SinkState → SinkState → Type 0
@@ -83,3 +84,16 @@ Carried words held faults faults_after (Err Output) before after =
     × Broken image request before after
 Carried words held faults faults_after (Err (Error error)) before after =
     Owes words held faults faults_after error before after
+
+-- THE ERROR LINE
+
+-- The end's error line was put, or a part of it where the sink failed.
+abbrev pub Reports : Ending → Status → SinkState → SinkState → Type 0
+Reports end status before after =
+    ((status ≡ end.status) × Wrote before after end.error)
+    ⊎ ((status ≡ OutputStatus) × WroteSome before after end.error)
+
+-- an error line was reported, or in its place that memory is wanting
+abbrev pub ReportsOf : ErrorLine → Status → SinkState → SinkState → Type 0
+ReportsOf error status before after =
+    (end : Ending) × ((end ≡ end_of error) ⊎ (end ≡ no_memory_end [])) × Reports end status before after

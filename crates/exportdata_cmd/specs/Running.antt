@@ -9,12 +9,10 @@ use Rattle.command_words.specs.Forms.{Request, list, show, IsForm, IsFirstWrong}
 use Rattle.name_index.specs.FullFile.{FullFile}
 use Rattle.exportdata_cmd.specs.Printed.{Line}
 use Rattle.exportdata_cmd.specs.Endings.{Ending, wrong_word_end, cannot_read_end, limit_nodes_end, no_memory_end}
-use Rattle.exportdata_cmd.specs.Endings.{end_of}
 use Rattle.exportdata_cmd.specs.Sources.{Opens}
 use Rattle.exportdata_cmd.specs.Due.{source_asked, Due}
-use Rattle.exportdata_cmd.specs.declared.error_line.ErrorLine.{ErrorLine}
 use Rattle.exportdata_cmd.specs.declared.exits.Status.{Status}
-use Rattle.exportdata_cmd.specs.declared.exits.Status.TheVariants.{Output, Memory, Limit}
+use Rattle.exportdata_cmd.specs.declared.exits.Status.TheVariants.{Memory, Limit}
 
 -- no line, or the first lines of what is due
 abbrev pub AreFirstDue : List Word → Option Held → List Line → Type 0
@@ -33,18 +31,22 @@ pub record IsUnread (words : List Word) (before after : ℕ) (end : Ending) : Ty
   pub failed : Rose before after
   pub shown : end ≡ cannot_read_end (source_asked request).file
 
--- the request reads declarations, whose types take nodes
-abbrev pub TakesNodes : Request → Type 0
-TakesNodes (list source) = ⊥
-TakesNodes (show source names) = Unit {0}
+-- the request reads declarations, a case for each command
+abbrev pub ReadsDeclarations : Request → Type 0
+ReadsDeclarations (list source) = ⊥
+ReadsDeclarations (show source names) = Unit {0}
 
--- the words ask for declarations of an open source, and their types have too many nodes
-pub record IsCrowded (words : List Word) (held : Option Held) (end : Ending) : Type 0 where
+-- the words ask for declarations of an open source, whose types take nodes
+pub record TakesNodes (words : List Word) (held : Option Held) : Type 0 where
   pub request : Request
   pub image : FullFile
   pub asked : IsForm words request
-  pub takes : TakesNodes request
+  pub reads : ReadsDeclarations request
   pub opened : Opens held (source_asked request) (Ok image)
+
+-- the types that the words ask for have too many nodes
+pub record IsCrowded (words : List Word) (held : Option Held) (end : Ending) : Type 0 where
+  pub takes : TakesNodes words held
   pub shown : end ≡ limit_nodes_end
 
 -- A run may end so where no sink fails. The count of faults of the files goes from before to after.
@@ -69,23 +71,12 @@ BrokeOff end out out_after err err_after =
     ⊎ (Wrote out out_after (concat end.output) × WroteSome err err_after end.error)
 
 -- The run fell short of what is due: for want of memory, or since types have too many nodes.
-abbrev pub FellShort : List Word → Status → Type 0
-FellShort words Memory = Unit {0}
-FellShort words Limit = (request : Request) × IsForm words request × TakesNodes request
-FellShort words _ = ⊥
+abbrev pub FellShort : List Word → Option Held → Status → Type 0
+FellShort words held Memory = Unit {0}
+FellShort words held Limit = TakesNodes words held
+FellShort words held _ = ⊥
 
 -- Words that aren't all text may be refused so: the first wrong word is said, or that memory is wanting.
 abbrev pub MayRefuse : List Word → Ending → Type 0
 MayRefuse words end =
     ((number : ℕ) × IsFirstWrong words number × (end ≡ wrong_word_end number)) ⊎ (end ≡ no_memory_end [])
-
--- The end's error line was put, or a part of it where the sink failed.
-abbrev pub Reports : Ending → Status → SinkState → SinkState → Type 0
-Reports end status before after =
-    ((status ≡ end.status) × Wrote before after end.error)
-    ⊎ ((status ≡ Output) × WroteSome before after end.error)
-
--- an error line was reported, or in its place that memory is wanting
-abbrev pub ReportsOf : ErrorLine → Status → SinkState → SinkState → Type 0
-ReportsOf error status before after =
-    (end : Ending) × ((end ≡ end_of error) ⊎ (end ≡ no_memory_end [])) × Reports end status before after

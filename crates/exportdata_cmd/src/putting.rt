@@ -1,6 +1,6 @@
 ghost use Rattle.std.specs.Prelude.{◌∷◌, []};
 ghost use Rattle.exportdata_cmd.specs.Putting.{PutsLines};
-ghost use Rattle.exportdata_cmd.specs.Running.{Reports, ReportsOf};
+ghost use Rattle.exportdata_cmd.specs.Carried.{Reports, ReportsOf};
 
 use crate::error_line::ErrorLine;
 use crate::exits::Status;

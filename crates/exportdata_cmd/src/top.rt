@@ -38,7 +38,7 @@ pub fn run<R: Threads + Sync, F: Files, S: Sink, E: Sink, G: Gate>(
         → ¬ Rose (S.state out.old).faults (S.state out.new).faults
         → ¬ Rose (E.state err.old).faults (E.state err.new).faults
         → EndedAs due result (S.state out.old) (S.state out.new) (E.state err.old) (E.state err.new)
-        ⊎ FellShort (map string_bytes words.now) result }
+        ⊎ FellShort (map string_bytes words.now) (F.held files.old) result }
 
     // Only a sink's fault makes it Output, and each does. Then it broke off before it had ended so.
     ensures output { result ≡ Status.Output → Rose (S.state out.old).faults (S.state out.new).faults
