@@ -51,7 +51,8 @@ module _ (words : List Word) (held : Option Held) (before after : ℕ) (out : Si
   fault_end request (breach fault) asked opens = (Ok request, asked, (Err (breach fault), opens, refl))
 
   refused : (request : Request) (error : ErrorLine) → IsForm words request
-      → Refuses (source_asked request) held before after (end_of error) → MayEnd words held before after (after_lines [] (end_of error))
+      → Refuses (source_asked request) held before after (end_of error)
+      → MayEnd words held before after (after_lines [] (end_of error))
   refused request error asked (inl (fault, opens, is)) =
       subst (λ end. MayEnd words held before after (after_lines [] end)) (sym is) (inl (fault_end request fault asked opens))
   refused request error asked (inr (inl (rose, is))) =
@@ -133,7 +134,8 @@ broke_off words held before after out out_after err (request, image, here, (stat
 
 -- the status is one of those that go with lines
 pub never_ended : (words : List Word) (held : Option Held) (before after : ℕ) (status : Status) (out out_after : SinkState)
-    → Carried words held before after (Ok status) out out_after → (other : Status) → other ≢ Done → other ≢ Refused → status ≡ other → ⊥
+    → Carried words held before after (Ok status) out out_after → (other : Status) → other ≢ Done → other ≢ Refused
+    → status ≡ other → ⊥
 never_ended words held before after status out out_after (request, image, here, (lines, yields, wrote)) other not_done not_refused is =
     elim (yields_either image request (output_end status lines) yields) as (λ _. ⊥) [
       | inl done ↦ not_done (sym is ∙ done)
@@ -156,7 +158,8 @@ opened_once : (words : List Word) (files : Held) (request : Request) (image : Fu
     → IsOpened words (Some files) request image
     → (end : Ending) → OneOutcome words (Some files) end
 opened_once words files request image here end other seen asked opens yields =
-    let seen_here = subst (λ r. Opens (Some files) (source_asked r) (Ok seen)) (one_request words other request asked here.asked) opens in
+    let seen_here =
+    subst (λ r. Opens (Some files) (source_asked r) (Ok seen)) (one_request words other request asked here.asked) opens in
     let same = one_opening files (source_asked request) (Ok seen) (Ok image) seen_here here.opened in
     subst GivesOne (sym (image_is seen image same)) here.one
 
@@ -164,11 +167,13 @@ pub ended_complete : (words : List Word) (held : Option Held) (before after : �
     (out out_after err : SinkState)
     → Carried words held before after (Ok status) out out_after → (due : Ending) → Due words held due → IsSome held
     → (Rose before after → ⊥) → EndedAs due status out out_after err err ⊎ FellShort words held status
-ended_complete words None before after status out out_after err done due is told readable = let e : false ≡ true = told in absurd cc
+ended_complete words None before after status out out_after err done due is told readable =
+    let e : false ≡ true = told in absurd cc
 ended_complete words (Some files) before after status out out_after err (request, image, here, (lines, yields, wrote)) due is told readable =
     let end = output_end status lines in
     let may = inl (due_lines words (Some files) before after out out_after request image here end yields) in
-    let is_end : EndedAs end status out out_after err err = record { its_status = refl; on_out = wrote; on_err = wrote_nothing err } in
+    let is_end : EndedAs end status out out_after err err =
+    record { its_status = refl; on_out = wrote; on_err = wrote_nothing err } in
     completed words (Some files) end due status out out_after err err is_end
     (complete words (Some files) before after end due may (opened_once words files request image here end) is told readable)
 
@@ -220,7 +225,8 @@ module _ (words : List Word) (held : Option Held) (before after : ℕ) (error : 
   never_output end (inl is) e = not_output error (sym (ap (λ e. e.status) is) ∙ e)
   never_output end (inr is) e = not_output NoMemory (sym (ap (λ e. e.status) is) ∙ e)
 
-  ended_so : (status : Status) (err err_after : SinkState) (end : Ending) → (status ≡ end.status) × Wrote err err_after end.error
+  ended_so : (status : Status) (err err_after : SinkState) (end : Ending) → (status ≡ end.status)
+      × Wrote err err_after end.error
       → EndedAs (after_lines owes.lines end) status out out_after err err_after
   ended_so status err err_after end r = record { its_status = r.0; on_out = owes.wrote; on_err = r.1 }
 
@@ -250,12 +256,14 @@ module _ (words : List Word) (held : Option Held) (before after : ℕ) (error : 
   reported_unread status err err_after (end, which, inr r) is = let e = sym r.0 ∙ is in absurd cc
 
   pub reported_complete : (status : Status) (err err_after : SinkState) → ReportsOf error status err err_after
-      → (due : Ending) → Due words held due → IsSome held → (Rose before after → ⊥) → (Rose err.faults err_after.faults → ⊥)
+      → (due : Ending) → Due words held due → IsSome held → (Rose before after → ⊥)
+      → (Rose err.faults err_after.faults → ⊥)
       → EndedAs due status out out_after err err_after ⊎ FellShort words held status
   reported_complete status err err_after (end, which, inl r) due is told readable writable =
       completed words held (after_lines owes.lines end) due status out out_after err err_after (ended_so status err err_after end r)
       (complete words held before after (after_lines owes.lines end) due (may end which) (no_lines end which) is told readable)
-  reported_complete status err err_after (end, which, inr r) due is told readable writable = absurd (writable r.1.failed)
+  reported_complete status err err_after (end, which, inr r) due is told readable writable =
+      absurd (writable r.1.failed)
 
 -- the words ask this of a source that was opened
 pub is_opened : (words : List Word) (held : Option Held) (request : Request) (source : Source) (image : FullFile)

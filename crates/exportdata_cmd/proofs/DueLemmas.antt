@@ -52,7 +52,8 @@ opens_long source None long = absurd long
 opens_long source (Some bytes) long = ap (opening_in source bytes) (below FILE_LIMIT (length bytes) long)
 
 opens_as : (source : Source) (body : Option (List ℕ)) (bytes : List ℕ) (read : Result FullFile ByteFault)
-    → body ≡ Some bytes → length bytes ≤ FILE_LIMIT → full_file_of source.path bytes ≡ read → opening_of source body ≡ of_reading read
+    → body ≡ Some bytes → length bytes ≤ FILE_LIMIT → full_file_of source.path bytes ≡ read
+    → opening_of source body ≡ of_reading read
 opens_as source body bytes read is short reads =
     ap (opening_of source) is
     ∙ ap (opening_in source bytes) (not_below FILE_LIMIT (length bytes) short)
@@ -90,7 +91,8 @@ one_yield image one (show source names) a b x y = one_shown image one names a b 
 
 -- of what is due once the source is open or has a fault, where names give one outcome
 one_due_of : (request : Request) (r : Result FullFile SourceFault) (a b : Ending)
-    → ((image : FullFile) → r ≡ Ok image → Yields image request a → GivesOne image) → DueOf request r a → DueOf request r b
+    → ((image : FullFile) → r ≡ Ok image → Yields image request a → GivesOne image) → DueOf request r a
+    → DueOf request r b
     → a ≡ b
 one_due_of request (Err fault) a b one x y = x ∙ sym y
 one_due_of request (Ok image) a b one x y = one_yield image (one image refl x) request a b x y
@@ -106,7 +108,8 @@ pub one_due : (words : List Word) (files : Held) (a b : Ending) → OneOutcome w
 one_due words files a b one (asked, asks, x) (other, asks_other, y) =
     same asked asks x (subst (λ r. DueFor r (Some files) b) (one_asking words other asked asks_other asks) y)
   where
-    same : (asked : Result Request ℕ) → Asks words asked → DueFor asked (Some files) a → DueFor asked (Some files) b → a ≡ b
+    same : (asked : Result Request ℕ) → Asks words asked → DueFor asked (Some files) a → DueFor asked (Some files) b
+        → a ≡ b
     same (Err number) asks x y = x ∙ sym y
     same (Ok request) asks (r, opens, x) (s, opens_other, y) =
         let joined = one_opening files (source_asked request) s r opens_other opens in

@@ -20,7 +20,8 @@ abbrev entry_of : Option (List ℕ × ℕ) → Option Entry
 entry_of None = None
 entry_of (Some p) = Some (record { name = p.0; offset = p.1 })
 
-found_entry : (o : Option Entry) (name : List ℕ) (offset : ℕ) → ◌≡◌ {A = Option (List ℕ × ℕ)} (Some (name, offset)) (option_map (λ e. (e.name, e.offset)) o)
+found_entry : (o : Option Entry) (name : List ℕ) (offset : ℕ)
+    → ◌≡◌ {A = Option (List ℕ × ℕ)} (Some (name, offset)) (option_map (λ e. (e.name, e.offset)) o)
     → o ≡ Some (record { name = name; offset = offset })
 found_entry None name offset e = cc
 found_entry (Some entry) name offset e = ap entry_of (sym e)
@@ -41,7 +42,8 @@ found_name packages k j name offset e = found_in (slice_get packages k) j name o
 abbrev heading_line : List ℕ × List ℕ → List Line
 heading_line p = package_line p.0 p.1 ∷ []
 
-headed : (o : Option Package) (path name : List ℕ) → ◌≡◌ {A = Option (List ℕ × List ℕ)} (Some (path, name)) (option_map (λ p. (p.path, p.name)) o)
+headed : (o : Option Package) (path name : List ℕ)
+    → ◌≡◌ {A = Option (List ℕ × List ℕ)} (Some (path, name)) (option_map (λ p. (p.path, p.name)) o)
     → option_map_or lines_of_package o [] ≡ package_line path name ∷ name_lines (option_map_or (λ p. p.entries) o [])
 headed None path name e = cc
 headed (Some p) path name e =

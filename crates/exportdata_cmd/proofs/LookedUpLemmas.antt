@@ -72,7 +72,8 @@ module _ (read : List (ℕ × Outcome)) where
       let is : a ≡ Declared number = cc in
       ap (λ o. shown_status ((n, answer_of read o) ∷ answered read names answers)) is
       ∙ passes number (subst (IsKnown read) is known.0) n (answered read names answers)
-  goes_on_at (n ∷ names) (a ∷ answers) (suc k) number same known here = goes_on_at names answers k number (omega (arith, same)) known.1 here
+  goes_on_at (n ∷ names) (a ∷ answers) (suc k) number same known here =
+      goes_on_at names answers k number (omega (arith, same)) known.1 here
 
   -- what isn't does
   unknown_at : (names : List Name) (answers : List LookedUp) (k : ℕ) → length answers ≡ length names
@@ -93,17 +94,22 @@ module _ (read : List (ℕ × Outcome)) where
   damaged_at (n ∷ names) (a ∷ answers) zero fault same here =
       let is : a ≡ Damaged fault = cc in
       ap (λ o. shown_status ((n, answer_of read o) ∷ answered read names answers)) (sym is)
-  damaged_at (n ∷ names) (a ∷ answers) (suc k) fault same here = damaged_at names answers k fault (omega (arith, same)) here
+  damaged_at (n ∷ names) (a ∷ answers) (suc k) fault same here =
+      damaged_at names answers k fault (omega (arith, same)) here
 
   pub refused_at : (names : List Name) (answers : List LookedUp) (k : ℕ) (one : LookedUp)
       → length answers ≡ length names → slice_get answers k ≡ Some one
-      → (one ≡ Unknown) ⊎ ((fault : ByteFault) × (one ≡ Damaged fault)) → Refused ≡ shown_status (answered read (drop k names) (drop k answers))
-  refused_at names answers k one same here (inl is) = unknown_at names answers k same (here ∙ ap (λ (x : LookedUp). Some x) is)
-  refused_at names answers k one same here (inr (fault, is)) = damaged_at names answers k fault same (here ∙ ap (λ (x : LookedUp). Some x) is)
+      → (one ≡ Unknown) ⊎ ((fault : ByteFault) × (one ≡ Damaged fault))
+      → Refused ≡ shown_status (answered read (drop k names) (drop k answers))
+  refused_at names answers k one same here (inl is) =
+      unknown_at names answers k same (here ∙ ap (λ (x : LookedUp). Some x) is)
+  refused_at names answers k one same here (inr (fault, is)) =
+      damaged_at names answers k fault same (here ∙ ap (λ (x : LookedUp). Some x) is)
 
   pub nothing_left : (names : List Name) (answers : List LookedUp) (k : ℕ) → length answers ≤ k
       → shown_status (answered read (drop k names) (drop k answers)) ≡ Done
-  nothing_left names answers k all = ap (λ xs. shown_status (answered read (drop k names) xs)) (drop_all k answers all) ∙ none (drop k names)
+  nothing_left names answers k all =
+      ap (λ xs. shown_status (answered read (drop k names) xs)) (drop_all k answers all) ∙ none (drop k names)
     where
       none : (names : List Name) → shown_status (answered read names []) ≡ Done
       none [] = refl
@@ -122,11 +128,13 @@ module _ (file : FullFile) where
 
   all_grown : (old new : List (ℕ × Outcome))
       → ((number : ℕ) (outcome : Outcome) → read_for old number ≡ Some outcome → read_for new number ≡ Some outcome)
-      → (names : List Name) (answers : List LookedUp) → AreLookedUp file old names answers → AreLookedUp file new names answers
+      → (names : List Name) (answers : List LookedUp) → AreLookedUp file old names answers
+      → AreLookedUp file new names answers
   all_grown old new stays [] [] are = tt
   all_grown old new stays [] (a ∷ answers) are = absurd are
   all_grown old new stays (n ∷ names) [] are = absurd are
-  all_grown old new stays (n ∷ names) (a ∷ answers) are = (grown old new stays n a are.0, all_grown old new stays names answers are.1)
+  all_grown old new stays (n ∷ names) (a ∷ answers) are =
+      (grown old new stays n a are.0, all_grown old new stays names answers are.1)
 
   one_looked_up : (read : List (ℕ
       × Outcome)) (names : List Name) (answers : List LookedUp) (name : Name) (one : LookedUp)
@@ -135,23 +143,27 @@ module _ (file : FullFile) where
   one_looked_up read [] [] name one are is = (is, tt)
   one_looked_up read [] (a ∷ answers) name one are is = absurd are
   one_looked_up read (n ∷ names) [] name one are is = absurd are
-  one_looked_up read (n ∷ names) (a ∷ answers) name one are is = (are.0, one_looked_up read names answers name one are.1 is)
+  one_looked_up read (n ∷ names) (a ∷ answers) name one are is =
+      (are.0, one_looked_up read names answers name one are.1 is)
 
   -- the names before a place, and the one at it
   pub looks_on : (old new : List (ℕ
       × Outcome)) (names : List Name) (k : ℕ) (name : Name) (answers : List LookedUp) (one : LookedUp)
       → slice_get names k ≡ Some name
       → ((number : ℕ) (outcome : Outcome) → read_for old number ≡ Some outcome → read_for new number ≡ Some outcome)
-      → AreLookedUp file old (take k names) answers → IsLookedUp file new name one → AreLookedUp file new (take (suc k) names) (answers ++ one ∷ [])
+      → AreLookedUp file old (take k names) answers → IsLookedUp file new name one
+      → AreLookedUp file new (take (suc k) names) (answers ++ one ∷ [])
   looks_on old new names k name answers one here stays are is =
       rw (one_more names k name here) (one_looked_up new (take k names) answers name one (all_grown old new stays (take k names) answers are) is)
 
   pub reads_on : (old new : List (ℕ × Outcome)) (names : List Name) (k : ℕ) (name : Name)
       → slice_get names k ≡ Some name
-      → ((number : ℕ) (outcome : Outcome) → read_for new number ≡ Some outcome → (read_for old number ≡ Some outcome) ⊎ HasOutcome file name.path name.name number outcome)
+      → ((number : ℕ) (outcome : Outcome) → read_for new number ≡ Some outcome → (read_for old number ≡ Some outcome)
+      ⊎ HasOutcome file name.path name.name number outcome)
       → OnlyRead file old (take k names) → OnlyRead file new (take (suc k) names)
   reads_on old new names k name here only before number outcome is =
-      elim (only number outcome is) as (λ _. (one : Name) × Contains (take (suc k) names) one × HasOutcome file one.path one.name number outcome) [
+      elim (only number outcome is) as (λ _. (one : Name) × Contains (take (suc k) names) one
+      × HasOutcome file one.path one.name number outcome) [
         | inl was ↦
             let b = before number outcome was in
             (b.0, rw (one_more names k name here) (Contains-append_left (take k names) (name ∷ []) b.0 b.1), b.2)
@@ -167,7 +179,8 @@ module _ (file : FullFile) where
       → IsAnswer file name (answer_of read one)
   right_one read name Unknown is = is
   right_one read name (Damaged fault) is = is
-  right_one read name (Declared number) (decl, gives, read_is) = subst (λ o. IsAnswer file name (declared_by o)) (sym read_is) (number, gives)
+  right_one read name (Declared number) (decl, gives, read_is) =
+      subst (λ o. IsAnswer file name (declared_by o)) (sym read_is) (number, gives)
 
   pub right : (read : List (ℕ × Outcome)) (names : List Name) (answers : List LookedUp)
       → AreLookedUp file read names answers → AllByRecursion (λ x. IsAnswer file x.0 x.1) (answered read names answers)

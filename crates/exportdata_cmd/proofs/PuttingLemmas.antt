@@ -32,7 +32,8 @@ prefix : (x y z s t : List ℕ) → y ≡ x ++ s → AddsPrefix t y z → AddsPr
 prefix x y z s t e (n, short, f) = (
   length s + n,
   simp length-append (omega arith),
-  f ∙ ap (λ (w : List ℕ). w ++ take n t) e ∙ append_assoc x s (take n t) ∙ ap (λ (w : List ℕ). x ++ w) (sym (take-append-add s t n)),
+  f ∙ ap (λ (w : List ℕ). w ++ take n t) e ∙ append_assoc x s (take n t)
+      ∙ ap (λ (w : List ℕ). x ++ w) (sym (take-append-add s t n)),
 )
 
 both_part : (a b c : Option (List ℕ)) (s t : List ℕ) → IfBothWritten a b (λ x y. y ≡ x ++ s)
@@ -45,7 +46,8 @@ both_part None None (Some z) s t e f = absurd f
 both_part None None None s t e f = tt
 
 longer : (x z s t : List ℕ) → AddsPrefix s x z → AddsPrefix (s ++ t) x z
-longer x z s t (n, short, f) = (n, simp length-append (omega arith), f ∙ ap (λ (w : List ℕ). x ++ w) (sym (take-append-le n s t short)))
+longer x z s t (n, short, f) =
+    (n, simp length-append (omega arith), f ∙ ap (λ (w : List ℕ). x ++ w) (sym (take-append-le n s t short)))
 
 part_longer : (a b : Option (List ℕ)) (s t : List ℕ) → IfBothWritten a b (AddsPrefix s)
     → IfBothWritten a b (AddsPrefix (s ++ t))
@@ -128,13 +130,15 @@ module _ {X : Type 0} (lines : X → List Line) (xs : List X) where
   loop_begins a = wrote_nothing a
 
   pub loop_goes_on : (a b c : SinkState) (k : ℕ) (x : X) → slice_get xs k ≡ Some x
-      → Wrote a b (concat (flat_map lines (take k xs))) → PutsLines (lines x) (Ok tt) b c → Wrote a c (concat (flat_map lines (take (k + 1) xs)))
+      → Wrote a b (concat (flat_map lines (take k xs))) → PutsLines (lines x) (Ok tt) b c
+      → Wrote a c (concat (flat_map lines (take (k + 1) xs)))
   loop_goes_on a b c k x is first second =
       rw (add-one k, one_more xs k x is, flat_map-append lines (take k xs) (x ∷ []), append-nil (lines x), concat-append (flat_map lines (take k xs)) (lines x))
       (wrote_both a b c _ _ first second.whole)
 
   pub loop_stops : (a b c : SinkState) (k : ℕ) (x : X) (e : PutFault) → slice_get xs k ≡ Some x
-      → Wrote a b (concat (flat_map lines (take k xs))) → PutsLines (lines x) (Err e) b c → PutsLines (flat_map lines xs) (Err e) a c
+      → Wrote a b (concat (flat_map lines (take k xs))) → PutsLines (lines x) (Err e) b c
+      → PutsLines (flat_map lines xs) (Err e) a c
   loop_stops a b c k x e is first second =
       let before = flat_map lines (take k xs) in
       let after = flat_map lines (drop (suc k) xs) in

@@ -36,9 +36,11 @@ pub unread : (words : List Word) (held : Option Held) (before after : ℕ) (end 
     → MayEnd words held before after end
     → end.status ≡ Files → Rose before after
 unread words held before after end (inl due) files = absurd (due_not_files due.0 held end due.2 files)
-unread words held before after end (inr (inl starved)) files = let e = sym (ap (λ end. end.status) starved.shown) ∙ files in absurd cc
+unread words held before after end (inr (inl starved)) files =
+    let e = sym (ap (λ end. end.status) starved.shown) ∙ files in absurd cc
 unread words held before after end (inr (inr (inl is))) files = is.failed
-unread words held before after end (inr (inr (inr crowded))) files = let e = sym (ap (λ end. end.status) crowded.shown) ∙ files in absurd cc
+unread words held before after end (inr (inr (inr crowded))) files =
+    let e = sym (ap (λ end. end.status) crowded.shown) ∙ files in absurd cc
 
 -- COMPLETENESS
 
@@ -50,9 +52,11 @@ pub complete : (words : List Word) (held : Option Held) (before after : ℕ) (en
     → OneOutcome words held end → Due words held due → IsSome held → (Rose before after → ⊥)
     → (end ≡ due) ⊎ FellShort words held end.status
 complete words None before after end due may one is told readable = let e : false ≡ true = told in absurd cc
-complete words (Some files) before after end due (inl is_due) one is told readable = inl (one_due words files end due one is_due is)
+complete words (Some files) before after end due (inl is_due) one is told readable =
+    inl (one_due words files end due one is_due is)
 complete words (Some files) before after end due (inr (inl starved)) one is told readable =
     inr (fell words (Some files) end.status Memory (ap (λ end. end.status) starved.shown) tt)
-complete words (Some files) before after end due (inr (inr (inl was_unread))) one is told readable = absurd (readable was_unread.failed)
+complete words (Some files) before after end due (inr (inr (inl was_unread))) one is told readable =
+    absurd (readable was_unread.failed)
 complete words (Some files) before after end due (inr (inr (inr crowded))) one is told readable =
     inr (fell words (Some files) end.status Limit (ap (λ end. end.status) crowded.shown) crowded.takes)

@@ -54,14 +54,16 @@ same_number x y e = exact_unsigned x y (equal (nat_cmp x y) e)
     equal Equal e = refl
     equal Greater e = absurd cc
 
-no_more : (xs ys : List ℕ) → IsStrictlySortedBy nat_cmp xs → ((n : ℕ) → Contains xs n → Contains ys n) → length xs ≤ length ys
+no_more : (xs ys : List ℕ) → IsStrictlySortedBy nat_cmp xs → ((n : ℕ) → Contains xs n → Contains ys n)
+    → length xs ≤ length ys
 no_more xs ys sorted among =
     let same = eq_by_cmp_equiv nat_cmp_total in
     length-le_from_is_member same xs ys (IsDistinct-from_sorted nat_cmp xs sorted)
     (λ n has. list_any-from_Contains same n ys (among n (Contains-from_any same_number n xs has)))
 
 -- each name that is asked for and declared is counted once
-one_count : (image : FullFile) (names : List Name) (m n : ℕ) → AreDecoded image names m → AreDecoded image names n → m ≡ n
+one_count : (image : FullFile) (names : List Name) (m n : ℕ) → AreDecoded image names m → AreDecoded image names n
+    → m ≡ n
 one_count image names m n x y =
     let some : length x.numbers ≤ length y.numbers =
     no_more x.numbers y.numbers x.in_order (λ n has. (y.each n).1 ((x.each n).0 has)) in
@@ -86,13 +88,15 @@ module _ (image : FullFile) (one : GivesOne image) where
   one_answer name unknown (damaged fault) x y = absurd (x y.0 y.1.0 y.1.1)
   one_answer name unknown (declared decl) x y = absurd (x y.0 y.1.0 y.1.1)
   one_answer name (damaged fault) unknown x y = absurd (y x.0 x.1.0 x.1.1)
-  one_answer name (damaged f) (damaged g) x y = ap damaged (one_fault f g (one name.path name.name x.0 y.0 (Err f) (Err g) x.1 y.1).1)
+  one_answer name (damaged f) (damaged g) x y =
+      ap damaged (one_fault f g (one name.path name.name x.0 y.0 (Err f) (Err g) x.1 y.1).1)
   one_answer name (damaged fault) (declared decl) x y =
       absurd (not_damaged decl fault (sym (one name.path name.name x.0 y.0 (Err fault) (Ok decl) x.1 y.1).1))
   one_answer name (declared decl) unknown x y = absurd (y x.0 x.1.0 x.1.1)
   one_answer name (declared decl) (damaged fault) x y =
       absurd (not_damaged decl fault (one name.path name.name x.0 y.0 (Ok decl) (Err fault) x.1 y.1).1)
-  one_answer name (declared d) (declared e) x y = ap declared (one_decl d e (one name.path name.name x.0 y.0 (Ok d) (Ok e) x.1 y.1).1)
+  one_answer name (declared d) (declared e) x y =
+      ap declared (one_decl d e (one name.path name.name x.0 y.0 (Ok d) (Ok e) x.1 y.1).1)
 
   one_list : (xs ys : List (Name × Answer)) → map (λ x. x.0) xs ≡ map (λ x. x.0) ys
       → AllByRecursion (λ x. IsAnswer image x.0 x.1) xs → AllByRecursion (λ x. IsAnswer image x.0 x.1) ys → xs ≡ ys
@@ -111,7 +115,8 @@ module _ (image : FullFile) (one : GivesOne image) where
   one_shown names a b x y =
       let same = one_list x.answers y.answers (x.for_names ∙ sym y.for_names) x.right y.right in
       let count = one_count image names x.count y.count x.decoded y.decoded in
-      let ends : shown_end image x.answers x.count ≡ shown_end image y.answers y.count = λ i. shown_end image (same i) (count i) in
+      let ends : shown_end image x.answers x.count ≡ shown_end image y.answers y.count =
+      λ i. shown_end image (same i) (count i) in
       x.shown ∙ ends ∙ sym y.shown
 
 pub shown_either : (answers : List (Name × Answer)) → (shown_status answers ≡ Done) ⊎ (shown_status answers ≡ Refused)
@@ -144,7 +149,8 @@ module _ (image : FullFile) (one : GivesOne image) (read : List (ℕ × Outcome)
   decoded : (names : List Name) (answers : List LookedUp) → AreLookedUp image read names answers
       → OnlyRead image read names
       → IsStrictlySortedBy nat_cmp (declared_numbers read)
-      → ((number : ℕ) → Contains (declared_numbers read) number ↔ ((decl : Decl) × (read_for read number ≡ Some (Ok decl))))
+      → ((number : ℕ)
+      → Contains (declared_numbers read) number ↔ ((decl : Decl) × (read_for read number ≡ Some (Ok decl))))
       → AreDecoded image names (length (declared_numbers read))
   decoded names answers are only in_order each = record {
     numbers = declared_numbers read;
@@ -165,7 +171,8 @@ module _ (image : FullFile) (one : GivesOne image) (read : List (ℕ × Outcome)
   pub shows : (names : List Name) (answers : List LookedUp) → AreLookedUp image read names answers
       → OnlyRead image read names
       → IsStrictlySortedBy nat_cmp (declared_numbers read)
-      → ((number : ℕ) → Contains (declared_numbers read) number ↔ ((decl : Decl) × (read_for read number ≡ Some (Ok decl))))
+      → ((number : ℕ)
+      → Contains (declared_numbers read) number ↔ ((decl : Decl) × (read_for read number ≡ Some (Ok decl))))
       → (status : Status) → status ≡ shown_status (answered read names answers)
       → Shows image names (output_end status
       (answer_texts (answered read names answers) ++ decoded_line (length (declared_numbers read)) (length (listed image.packages)) ∷ []))

@@ -19,7 +19,8 @@ answer-requires g c =
 pub returns-clause-carried : goal.returns-clause-carried
 returns-clause-carried g c =
     let opened = c.in-Ok-open_source.ensures.opened in
-    let one = gives_one _ opened.0 c.in-Ok-open_source.image opened.2 (rw c.parts.ensures.exact.bytes at c.are_bytes.ensures) in
+    let one =
+    gives_one _ opened.0 c.in-Ok-open_source.image opened.2 (rw c.parts.ensures.exact.bytes at c.are_bytes.ensures) in
     carried _ _ _ _ _ _ (request_of c.in-Ok.command) c.in-Ok-open_source.image
     (is_opened _ _ _ (source_of c.source_named.result) _ c.in-Ok.ensures.found c.source_named.ensures.source opened one)
     _ c.answer.ensures

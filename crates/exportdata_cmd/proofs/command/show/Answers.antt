@@ -27,7 +27,8 @@ returns g c source =
     let only = rw c.new-objects.ensures.file at c.in-Ok.ensures.only in
     let same = c.as_slice-answers.ensures.value in
     let status =
-    c.status_of.ensures read names (ap (λ xs. length xs) same ∙ as_many image read names answers looked) (rw same (known image read names answers looked))
+    c.status_of.ensures read names (ap (λ xs. length xs) same
+    ∙ as_many image read names answers looked) (rw same (known image read names answers looked))
     ∙ ap (λ xs. shown_status (answered read names xs)) same in
     let shown =
     shows image c.requires read names answers looked only c.declared_count.ensures.once c.declared_count.ensures.each c.status_of.result status in

@@ -12,7 +12,8 @@ loop-k-preserved c =
     let before = c.loop-k.invariant in
     let file = c.args.objects.now.file in
     let here = sym c.in-Some.ensures.exact in
-    let pushed = c.push.ensures.items ∙ where_no_error c.push.result _ _ (sym c.is_err.ensures.value ∙ c.if-is_err.false) in
+    let pushed =
+    c.push.ensures.items ∙ where_no_error c.push.result _ _ (sym c.is_err.ensures.value ∙ c.if-is_err.false) in
     let answer = c.in_ok-answer.ensures in (
       rw (add-one c.loop-k.k, pushed)
           (looks_on file (read_by c.loop-k.objects) (read_by c.look_up_name.new.objects) (names_of c.args.names) c.loop-k.k (name_of c.in-Some.name) c.loop-k.answers.items c.in_ok-answer.answer here answer.stays before.0
