@@ -45,9 +45,7 @@ impl<W: Write + Drop> StdSink<W> {
 }
 
 impl<W: Write + Drop> Sink for StdSink<W> {
-    ghost written = { λ _. None };
-
-    ghost faults = { λ sink. sink.faults };
+    ghost state = { λ sink. record { written = None; faults = sink.faults } };
 
     fn put(&mut self, piece: &[u8]) -> Result<(), SinkFault> {
         if self.block.capacity() - self.block.len() < piece.len() {

@@ -1,7 +1,7 @@
-pub mod Endings
-pub mod Indexed
-pub mod Puts
-pub mod Runs
-pub mod Carrying
-pub mod Shown
-pub mod ShowsAll
+pub mod ListingLemmas
+pub mod PuttingLemmas
+pub mod LookedUpLemmas
+pub mod ShowingLemmas
+pub mod DueLemmas
+pub mod RunningLemmas
+pub mod CarriedLemmas

@@ -1,9 +1,10 @@
 pub mod Printed
-pub mod ErrorLines
-pub mod Putting
+pub mod Endings
+pub mod Sources
 pub mod Listing
 pub mod Showing
-pub mod Ending
-pub mod Causes
+pub mod Due
+pub mod Running
+pub mod Putting
 pub mod Carried
 pub mod LookedUp

@@ -37,7 +37,8 @@ IsKnown read (Declared number) = (decl : Decl) × (read_for read number ≡ Some
 abbrev pub IsLookedUp : FullFile → List (ℕ × Outcome) → Name → LookedUp → Type 0
 IsLookedUp file read name Unknown = IsUnknown file name.path name.name
 IsLookedUp file read name (Damaged fault) = (number : ℕ) × HasOutcome file name.path name.name number (Err fault)
-IsLookedUp file read name (Declared number) = (decl : Decl) × HasOutcome file name.path name.name number (Ok decl) × (read_for read number ≡ Some (Ok decl))
+IsLookedUp file read name (Declared number) =
+    (decl : Decl) × HasOutcome file name.path name.name number (Ok decl) × (read_for read number ≡ Some (Ok decl))
 
 abbrev pub AreLookedUp : FullFile → List (ℕ × Outcome) → List Name → List LookedUp → Type 0
 AreLookedUp file read [] [] = Unit {0}
@@ -47,4 +48,6 @@ AreLookedUp file read (name ∷ names) (one ∷ others) = IsLookedUp file read n
 
 -- only what the names give was read
 abbrev pub OnlyRead : FullFile → List (ℕ × Outcome) → List Name → Type 0
-OnlyRead file read names = (number : ℕ) (outcome : Outcome) → read_for read number ≡ Some outcome → (name : Name) × Contains names name × HasOutcome file name.path name.name number outcome
+OnlyRead file read names =
+    (number : ℕ) (outcome : Outcome) → read_for read number ≡ Some outcome
+    → (name : Name) × Contains names name × HasOutcome file name.path name.name number outcome

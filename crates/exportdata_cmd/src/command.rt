@@ -1,9 +1,15 @@
 ghost use Rattle.std.specs.Prelude.{◌≡◌, ◌<◌, ℕ, List, get_or, map};
 ghost use Rattle.std.specs.String.{string_bytes};
-ghost use Rattle.command_words.specs.Texts.{Word, source_word};
-ghost use Rattle.command_words.specs.Forms.{list as list_request, show as show_request, IsForm, source_of, names_of};
-ghost use Rattle.exportdata_cmd.specs.Putting.{sink};
-ghost use Rattle.exportdata_cmd.specs.Carried.{Carried};
+ghost use Rattle.outside.specs.Sinks.{SinkState};
+ghost use Rattle.command_words.specs.Texts.{Source, source_word};
+ghost use Rattle.command_words.specs.Forms.{Request, list as list_request, show as show_request};
+ghost use Rattle.command_words.specs.Forms.{request_of, IsLabelled, source_of, names_of};
+ghost use Rattle.name_index.specs.FullFile.{FullFile};
+ghost use Rattle.exportdata_cmd.specs.Printed.{Line};
+ghost use Rattle.exportdata_cmd.specs.Endings.{output_end};
+ghost use Rattle.exportdata_cmd.specs.Putting.{PutsLines};
+ghost use Rattle.exportdata_cmd.specs.Due.{source_asked, Yields};
+ghost use Rattle.exportdata_cmd.specs.Carried.{GivesOne, Answered, Carried};
 
 use crate::error_line::ErrorLine;
 use crate::exits::Status;
@@ -12,6 +18,7 @@ use crate::opening::open_source;
 use crate::putting::PutFault;
 use crate::showing::{Tally, look_up_names, put_answers, status_of};
 use command_words::{Command, NameWords, SourceWord, read_command};
+use name_index::Image;
 use outside::{Files, Sink};
 use session::{LookUpFault, Objects, Session};
 use std::alloc::Global;
@@ -32,75 +39,93 @@ pub fn carry_out<'a, F: Files, S: Sink>(
     files: &mut F,
     out: &mut S,
 ) -> Result<Status, Stop<'a>>
-    ensures carried { Carried (map string_bytes words.now) (F.held files.old) (F.faults files.old) (F.faults files.new) result
-        (sink (S.written out.old) (S.faults out.old)) (sink (S.written out.new) (S.faults out.new)) }
+    ensures carried { Carried (map string_bytes words.now) (F.held files.old) (F.faults files.old) (F.faults files.new)
+        result (S.state out.old) (S.state out.new) }
     ensures kept { F.held files.new ≡ F.held files.old }
 {
-    match read_command(words) {
-        Err(wrong) => Err(Stop::Error(ErrorLine::WrongWord(wrong.number))),
-        Ok(Command::List(source)) => list(alloc, &source, files, out),
-        Ok(Command::Show { source, names }) => show(alloc, &source, names, files, out),
-    }
-}
-
-/// Lists the packages and names of a source.
-fn list<'a, F: Files, S: Sink>(
-    alloc: Global,
-    source: &SourceWord<'a>,
-    files: &mut F,
-    out: &mut S,
-) -> Result<Status, Stop<'a>>
-    requires { source.now.label.now ≡ source_word (source_of source.now) }
-    ensures carried { (words : List Word) → IsForm words (list_request (source_of source.now))
-        → Carried words (F.held files.old) (F.faults files.old) (F.faults files.new) result
-        (sink (S.written out.old) (S.faults out.old)) (sink (S.written out.new) (S.faults out.new)) }
-    ensures kept { F.held files.new ≡ F.held files.old }
-{
-    let image = match open_source(alloc, source, files) {
+    let command = match read_command(words) {
+        Ok(command) => command,
+        Err(wrong) => return Err(Stop::Error(ErrorLine::WrongWord(wrong.number))),
+    };
+    let image = match open_source(alloc, &source_named(command), files) {
         Ok(image) => image,
         Err(error) => return Err(Stop::Error(error)),
     };
-    match put_packages(alloc, &image, out) {
-        Ok(()) => Ok(Status::Done),
-        Err(PutFault::Failed) => Err(Stop::Output),
-        Err(PutFault::OutOfMemory) => Err(Stop::Error(ErrorLine::NoMemory)),
+    are_bytes(image.parts().file);
+    answer(alloc, command, &image, out)
+}
+
+// The source of which a command asks something.
+fn source_named<'a>(command: Command<'a>) -> SourceWord<'a>
+    requires { IsLabelled command }
+    ensures source { source_of result ≡ source_asked (request_of command.entry) }
+    ensures labelled { result.label.now ≡ source_word (source_of result) }
+{
+    match command {
+        Command::List(source) | Command::Show { source, .. } => source,
     }
+}
+
+/// Answers a command from its open source.
+fn answer<'a, S: Sink>(
+    alloc: Global,
+    command: Command<'a>,
+    image: &Image,
+    out: &mut S,
+) -> Result<Status, Stop<'a>>
+    requires { GivesOne image.now }
+    ensures { Answered image.now (request_of command.entry) result (S.state out.old) (S.state out.new) }
+{
+    match command {
+        Command::List(_) => list(alloc, image, out),
+        Command::Show { names, .. } => show(alloc, names, image, out),
+    }
+}
+
+// Lists the packages and names of a source.
+fn list<'a, S: Sink>(alloc: Global, image: &Image, out: &mut S) -> Result<Status, Stop<'a>>
+    ensures { (source : Source) → Answered image.now (list_request source) result (S.state out.old) (S.state out.new) }
+{
+    finish(put_packages(alloc, image, out), Status::Done)
 }
 
 /// The most nodes of the types that a command reads: 2^24.
 const NODE_LIMIT: u32 = 16_777_216;
 
-/// Shows what the names of a source are. All are looked up before a line is put.
-fn show<'a, F: Files, S: Sink>(
+// Shows what the names of a source are. All are looked up before a line is put.
+fn show<'a, S: Sink>(
     alloc: Global,
-    source: &SourceWord<'a>,
-    names: NameWords<'a>,
-    files: &mut F,
+    names: NameWords<'_>,
+    image: &Image,
     out: &mut S,
 ) -> Result<Status, Stop<'a>>
-    requires { source.now.label.now ≡ source_word (source_of source.now) }
-    ensures carried { (words : List Word) → IsForm words (show_request (source_of source.now) (names_of names.entry))
-        → Carried words (F.held files.old) (F.faults files.old) (F.faults files.new) result
-        (sink (S.written out.old) (S.faults out.old)) (sink (S.written out.new) (S.faults out.new)) }
-    ensures kept { F.held files.new ≡ F.held files.old }
+    requires { GivesOne image.now }
+    ensures { (source : Source) → Answered image.now (show_request source (names_of names.entry)) result
+        (S.state out.old) (S.state out.new) }
 {
-    let image = match open_source(alloc, source, files) {
-        Ok(image) => image,
-        Err(error) => return Err(Stop::Error(error)),
-    };
-    are_bytes(image.parts().file);
-    let mut objects = Objects::new(alloc, Session { image: &image }, NODE_LIMIT);
+    let mut objects = Objects::new(alloc, Session { image }, NODE_LIMIT);
     let answers = match look_up_names(alloc, names, &mut objects) {
         Ok(answers) => answers,
         Err(LookUpFault::Nodes) => return Err(Stop::Error(ErrorLine::LimitNodes)),
         Err(LookUpFault::OutOfMemory) => return Err(Stop::Error(ErrorLine::NoMemory)),
     };
+    let answers = answers.as_slice();
     let tally = Tally {
         declared: objects.declared_count(),
         listed: image.name_count(),
     };
-    match put_answers(alloc, names, answers.as_slice(), &objects, tally, out) {
-        Ok(()) => Ok(status_of(answers.as_slice())),
+    let put = put_answers(alloc, names, answers, &objects, tally, out);
+    finish(put, status_of(answers))
+}
+
+// What putting all lines of a command comes to, where this status goes with them.
+fn finish<'a>(put: Result<(), PutFault>, status: Status) -> Result<Status, Stop<'a>>
+    ensures { (image : FullFile) (request : Request) (lines : List Line) (before after : SinkState)
+        → Yields image request (output_end status lines) → PutsLines lines put before after
+        → Answered image request result before after }
+{
+    match put {
+        Ok(()) => Ok(status),
         Err(PutFault::Failed) => Err(Stop::Output),
         Err(PutFault::OutOfMemory) => Err(Stop::Error(ErrorLine::NoMemory)),
     }

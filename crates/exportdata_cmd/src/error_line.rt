@@ -1,5 +1,6 @@
 ghost use Rattle.std.specs.Prelude.{◌≡◌, ◌++◌, IfOk, OnOk};
 ghost use Rattle.decl_text.specs.Printed.{printed};
+ghost use Rattle.exportdata_cmd.specs.Printed.{line as text_line};
 
 use crate::exits::Status;
 use crate::printing::{put_fault, put_number};
@@ -27,11 +28,11 @@ pub enum ErrorLine<'a> {
 }
 
 impl ErrorLine<'_> {
-    ghost use Rattle.exportdata_cmd.specs.ErrorLines.{text_of, line_of, status_of};
+    ghost use Rattle.exportdata_cmd.specs.Endings.{end_of};
 
     /// The status that goes with the line.
     pub fn status(self) -> Status
-        ensures { result ≡ status_of self.entry }
+        ensures { result ≡ (end_of self.entry).status }
     {
         match self {
             ErrorLine::WrongWord(_) => Status::Words,
@@ -44,41 +45,42 @@ impl ErrorLine<'_> {
 
     /// The line, with its line feed.
     pub fn line(self, alloc: Global) -> Result<Vec<u8>, AllocError>
-        ensures { IfOk result (λ line. line.items ≡ line_of self.entry) }
+        ensures { IfOk result (λ line. line.items ≡ (end_of self.entry).error) }
     {
         let mut line = Vec::new(alloc);
-        self.put_text(&mut line)?;
-        line.extend_from_slice(b"\n")?;
+        self.put_line(&mut line)?;
         Ok(line)
     }
 
-    // Adds the text of the line.
-    fn put_text(self, line: &mut Vec<u8>) -> Result<(), AllocError>
-        ensures { OnOk result (line.new.items ≡ line.old.items ++ text_of self.entry) }
+    // Adds the line.
+    fn put_line(self, line: &mut Vec<u8>) -> Result<(), AllocError>
+        ensures { OnOk result (line.new.items ≡ line.old.items ++ (end_of self.entry).error) }
     {
         match self {
             ErrorLine::WrongWord(number) => {
                 put_number(line, b"word ", number as u64)?;
-                line.extend_from_slice(b" is wrong")
+                line.extend_from_slice(b" is wrong\n")
             }
             ErrorLine::Missing(file) => put_named(line, b"missing ", file),
             ErrorLine::CannotRead(file) => put_named(line, b"cannot read ", file),
             ErrorLine::Damaged { label, fault } => {
                 put_printed(line, label.as_bytes())?;
                 line.extend_from_slice(b": ")?;
-                put_fault(line, fault)
+                put_fault(line, fault)?;
+                line.extend_from_slice(b"\n")
             }
-            ErrorLine::LimitBytes => line.extend_from_slice(b"limit bytes"),
-            ErrorLine::LimitNodes => line.extend_from_slice(b"limit nodes"),
-            ErrorLine::NoMemory => line.extend_from_slice(b"no memory"),
+            ErrorLine::LimitBytes => line.extend_from_slice(b"limit bytes\n"),
+            ErrorLine::LimitNodes => line.extend_from_slice(b"limit nodes\n"),
+            ErrorLine::NoMemory => line.extend_from_slice(b"no memory\n"),
         }
     }
 }
 
-// Adds some words and the name of a file.
+// Adds a line of some words and the name of a file.
 fn put_named(line: &mut Vec<u8>, words: &[u8], file: &str) -> Result<(), AllocError>
-    ensures { OnOk result (line.new.items ≡ line.old.items ++ (words.now ++ printed file.now)) }
+    ensures { OnOk result (line.new.items ≡ line.old.items ++ text_line (words.now ++ printed file.now)) }
 {
     line.extend_from_slice(words)?;
-    put_printed(line, file.as_bytes())
+    put_printed(line, file.as_bytes())?;
+    line.extend_from_slice(b"\n")
 }

@@ -4,6 +4,7 @@
 mod command;
 mod error_line;
 mod exits;
+mod laws;
 mod listing;
 mod opening;
 mod printing;
@@ -12,4 +13,5 @@ mod showing;
 mod top;
 
 pub use exits::Status;
+pub use laws::one_end_is_due;
 pub use top::{refuse_words, run};

@@ -2,7 +2,7 @@ ghost use Rattle.std.specs.Prelude.{◌≡◌, ◌<◌, ◌∷◌, [], length, s
 ghost use Rattle.name_index.specs.FullFile.{Package};
 ghost use Rattle.exportdata_cmd.specs.Printed.{package_line, name_line};
 ghost use Rattle.exportdata_cmd.specs.Listing.{entries_at, name_lines, lines_at, lines_of};
-ghost use Rattle.exportdata_cmd.specs.Putting.{sink, PutsLines};
+ghost use Rattle.exportdata_cmd.specs.Putting.{PutsLines};
 
 use crate::printing::{write_name_line, write_package_line};
 use crate::putting::{PutFault, put_line};
@@ -12,8 +12,7 @@ use std::alloc::Global;
 
 /// Puts the lines of all packages. The room of one line serves for all.
 pub fn put_packages<S: Sink>(alloc: Global, image: &Image, out: &mut S) -> Result<(), PutFault>
-    ensures { PutsLines (lines_of image.now.packages) result
-        (sink (S.written out.old) (S.faults out.old)) (sink (S.written out.new) (S.faults out.new)) }
+    ensures { PutsLines (lines_of image.now.packages) result (S.state out.old) (S.state out.new) }
 {
     let mut line = Vec::new(alloc);
     for k in 0..image.package_count() {
@@ -30,8 +29,7 @@ fn put_package<S: Sink>(
     out: &mut S,
 ) -> Result<(), PutFault>
     requires { k < length image.now.packages }
-    ensures { PutsLines (lines_at image.now.packages k) result
-        (sink (S.written out.old) (S.faults out.old)) (sink (S.written out.new) (S.faults out.new)) }
+    ensures { PutsLines (lines_at image.now.packages k) result (S.state out.old) (S.state out.new) }
 {
     let Some((path, name)) = image.package(k) else {
         unreachable!();
@@ -47,8 +45,7 @@ fn put_heading<S: Sink>(
     line: &mut Vec<u8>,
     out: &mut S,
 ) -> Result<(), PutFault>
-    ensures { PutsLines (package_line path.now name.now ∷ []) result
-        (sink (S.written out.old) (S.faults out.old)) (sink (S.written out.new) (S.faults out.new)) }
+    ensures { PutsLines (package_line path.now name.now ∷ []) result (S.state out.old) (S.state out.new) }
 {
     if write_package_line(line, path, name).is_err() {
         return Err(PutFault::OutOfMemory);
@@ -63,8 +60,7 @@ fn put_names<S: Sink>(
     line: &mut Vec<u8>,
     out: &mut S,
 ) -> Result<(), PutFault>
-    ensures { PutsLines (name_lines (entries_at image.now.packages k)) result
-        (sink (S.written out.old) (S.faults out.old)) (sink (S.written out.new) (S.faults out.new)) }
+    ensures { PutsLines (name_lines (entries_at image.now.packages k)) result (S.state out.old) (S.state out.new) }
 {
     for j in 0..image.names_in(k) {
         let Some((name, offset)) = image.name_in(k, j) else {
@@ -82,8 +78,7 @@ fn put_name<S: Sink>(
     line: &mut Vec<u8>,
     out: &mut S,
 ) -> Result<(), PutFault>
-    ensures { PutsLines (name_line name.now offset ∷ []) result
-        (sink (S.written out.old) (S.faults out.old)) (sink (S.written out.new) (S.faults out.new)) }
+    ensures { PutsLines (name_line name.now offset ∷ []) result (S.state out.old) (S.state out.new) }
 {
     if write_name_line(line, name, offset).is_err() {
         return Err(PutFault::OutOfMemory);

@@ -1,8 +1,9 @@
-ghost use Rattle.std.specs.Prelude.{◌≡◌, ◌≤◌, IfOk, IfErr, List, ℕ};
-ghost use Rattle.name_index.specs.Envelope.{Envelope};
+ghost use Rattle.std.specs.Prelude.{◌≡◌, Ok, IfOk, IfErr};
 ghost use Rattle.command_words.specs.Forms.{source_of};
 ghost use Rattle.command_words.specs.Texts.{source_word};
-ghost use Rattle.exportdata_cmd.specs.Causes.{HasBytes, IsCause};
+ghost use Rattle.exportdata_cmd.specs.Endings.{end_of};
+ghost use Rattle.exportdata_cmd.specs.Sources.{HasBytes, Opens};
+ghost use Rattle.exportdata_cmd.specs.Carried.{Refuses};
 
 use crate::error_line::ErrorLine;
 use command_words::SourceWord;
@@ -12,7 +13,7 @@ use std::alloc::Global;
 use wire_bytes::ReadFault;
 
 /// The most bytes of a file that are taken in: 16 MiB.
-const FILE_LIMIT: usize = 16_777_216;
+pub const FILE_LIMIT: usize = 16_777_216;
 
 // Fetches the file of a source.
 fn fetch<'a, F: Files>(
@@ -21,7 +22,8 @@ fn fetch<'a, F: Files>(
     files: &mut F,
 ) -> Result<Vec<u8>, ErrorLine<'a>>
     ensures fetched { IfOk result (λ bytes. HasBytes (F.held files.old) source.now.file.now bytes.items) }
-    ensures cause { IfErr result (IsCause (source_of source.now) (F.held files.old) (F.faults files.old) (F.faults files.new)) }
+    ensures cause { IfErr result (λ error. Refuses (source_of source.now)
+        (F.held files.old) (F.faults files.old) (F.faults files.new) (end_of error)) }
     ensures kept { F.held files.new ≡ F.held files.old }
 {
     let mut bytes = Vec::new(alloc);
@@ -41,8 +43,9 @@ pub fn open_source<'a, F: Files>(
     files: &mut F,
 ) -> Result<Image, ErrorLine<'a>>
     requires { source.now.label.now ≡ source_word (source_of source.now) }
-    ensures opened { IfOk result (λ image. (bytes : List ℕ) × HasBytes (F.held files.old) source.now.file.now bytes × Envelope source.now.path.now bytes image) }
-    ensures cause { IfErr result (IsCause (source_of source.now) (F.held files.old) (F.faults files.old) (F.faults files.new)) }
+    ensures opened { IfOk result (λ image. Opens (F.held files.old) (source_of source.now) (Ok image)) }
+    ensures cause { IfErr result (λ error. Refuses (source_of source.now)
+        (F.held files.old) (F.faults files.old) (F.faults files.new) (end_of error)) }
     ensures kept { F.held files.new ≡ F.held files.old }
 {
     let bytes = match fetch(alloc, source, files) {

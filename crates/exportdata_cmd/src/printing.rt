@@ -1,5 +1,6 @@
 ghost use Rattle.std.specs.Prelude.{◌≡◌, ◌++◌, decimal, OnOk};
-ghost use Rattle.exportdata_cmd.specs.Printed.{fault_text, package_line, name_line};
+ghost use Rattle.wire_bytes.specs.FaultText.{fault_text};
+ghost use Rattle.exportdata_cmd.specs.Printed.{package_line, name_line};
 ghost use Rattle.exportdata_cmd.specs.Showing.{unknown, damaged, label, answer_text, decoded_line};
 
 use decl_text::put_printed;
@@ -19,24 +20,8 @@ pub fn put_number(line: &mut Vec<u8>, words: &[u8], number: u64) -> Result<(), A
 pub fn put_fault(line: &mut Vec<u8>, fault: ByteFault) -> Result<(), AllocError>
     ensures { OnOk result (line.new.items ≡ line.old.items ++ fault_text fault) }
 {
-    match fault {
-        ByteFault::Ended { at } => put_number(line, b"ended at ", at),
-        ByteFault::Number { at } => put_number(line, b"number at ", at),
-        ByteFault::Range { at, value } => {
-            put_number(line, b"range at ", at)?;
-            put_number(line, b" value ", value)
-        }
-        ByteFault::Tag { at, value } => {
-            put_number(line, b"tag at ", at)?;
-            put_number(line, b" value ", value)
-        }
-        ByteFault::Order { at } => put_number(line, b"order at ", at),
-        ByteFault::Version { found } => put_number(line, b"version ", found),
-        ByteFault::Wide { at } => put_number(line, b"wide at ", at),
-        ByteFault::Float { at } => put_number(line, b"float at ", at),
-        ByteFault::NotConst { at } => put_number(line, b"notconst at ", at),
-        ByteFault::Trailing { at } => put_number(line, b"trailing at ", at),
-    }
+    let text = fault.to_string(*line.allocator())?;
+    line.extend_from_slice(text.as_bytes())
 }
 
 /// Makes the first line of a package.

@@ -1,6 +1,6 @@
-ghost use Rattle.std.specs.Prelude.{◌≡◌, ◌∷◌, [], OnOk};
-ghost use Rattle.exportdata_cmd.specs.ErrorLines.{line_of};
-ghost use Rattle.exportdata_cmd.specs.Putting.{sink, Reports, PutsLines};
+ghost use Rattle.std.specs.Prelude.{◌∷◌, []};
+ghost use Rattle.exportdata_cmd.specs.Putting.{PutsLines};
+ghost use Rattle.exportdata_cmd.specs.Carried.{Reports, ReportsOf};
 
 use crate::error_line::ErrorLine;
 use crate::exits::Status;
@@ -16,8 +16,7 @@ pub enum PutFault {
 
 /// Puts a line.
 pub fn put_line<S: Sink>(line: &[u8], out: &mut S) -> Result<(), PutFault>
-    ensures { PutsLines (line.now ∷ []) result
-        (sink (S.written out.old) (S.faults out.old)) (sink (S.written out.new) (S.faults out.new)) }
+    ensures { PutsLines (line.now ∷ []) result (S.state out.old) (S.state out.new) }
 {
     match out.put(line) {
         Ok(()) => Ok(()),
@@ -27,17 +26,21 @@ pub fn put_line<S: Sink>(line: &[u8], out: &mut S) -> Result<(), PutFault>
 
 /// Puts an error line, or where there is no memory for it the line that says so, and gives the status.
 pub fn report<E: Sink>(alloc: Global, error: ErrorLine<'_>, err: &mut E) -> Status
-    ensures { Reports error.entry result
-        (sink (E.written err.old) (E.faults err.old)) (sink (E.written err.new) (E.faults err.new)) }
+    ensures { ReportsOf error.entry result (E.state err.old) (E.state err.new) }
 {
     let Ok(line) = error.line(alloc) else {
-        return match err.put(b"no memory\n") {
-            Ok(()) => Status::Memory,
-            Err(_) => Status::Output,
-        };
+        return put_end(b"no memory\n", Status::Memory, err);
     };
-    match err.put(line.as_slice()) {
-        Ok(()) => error.status(),
+    put_end(line.as_slice(), error.status(), err)
+}
+
+// Puts the line of an end of this status, and gives the status.
+fn put_end<E: Sink>(line: &[u8], status: Status, err: &mut E) -> Status
+    ensures { Reports (record { status = status; output = []; error = line.now }) result
+        (E.state err.old) (E.state err.new) }
+{
+    match err.put(line) {
+        Ok(()) => status,
         Err(_) => Status::Output,
     }
 }

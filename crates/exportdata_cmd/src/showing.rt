@@ -7,8 +7,9 @@ ghost use Rattle.command_words.specs.Forms.{name_of, names_of};
 ghost use Rattle.session.specs.Answers.{Outcome, HasOutcome};
 ghost use Rattle.session.specs.Asked.{read_by, read_for, lent_outcome, IsLentInside};
 ghost use Rattle.exportdata_cmd.specs.Showing.{answer_text, answer_texts, decoded_line, shown_status};
-ghost use Rattle.exportdata_cmd.specs.LookedUp.{answer_of, answered, declared_by, IsKnown, IsLookedUp, AreLookedUp, OnlyRead};
-ghost use Rattle.exportdata_cmd.specs.Putting.{sink, PutsLines};
+ghost use Rattle.exportdata_cmd.specs.LookedUp.{answer_of, answered, declared_by, IsKnown, IsLookedUp, AreLookedUp};
+ghost use Rattle.exportdata_cmd.specs.LookedUp.{OnlyRead};
+ghost use Rattle.exportdata_cmd.specs.Putting.{PutsLines};
 
 use crate::exits::Status;
 use crate::printing::{write_damaged_line, write_decoded_line, write_unknown_line};
@@ -46,7 +47,8 @@ pub fn look_up_names(
     objects: &mut Objects<'_>,
 ) -> Result<Vec<LookedUp>, LookUpFault>
     requires { (read_by objects.old) ≡ [] }
-    ensures answers { IfOk result (λ answers. AreLookedUp objects.old.file (read_by objects.new) (names_of names.entry) answers.items) }
+    ensures answers { IfOk result (λ answers.
+        AreLookedUp objects.old.file (read_by objects.new) (names_of names.entry) answers.items) }
     ensures only { IfOk result (λ answers. OnlyRead objects.old.file (read_by objects.new) (names_of names.entry)) }
     ensures file { objects.new.file ≡ objects.old.file }
 {
@@ -69,10 +71,13 @@ fn look_up_name(
     name: &NameWord<'_>,
     objects: &mut Objects<'_>,
 ) -> Result<LookedUp, LookUpFault>
-    ensures answer { IfOk result (λ answer. IsLookedUp objects.old.file (read_by objects.new) (name_of name.now) answer) }
-    ensures stays { (number : ℕ) (outcome : Outcome) → read_for (read_by objects.old) number ≡ Some outcome → read_for (read_by objects.new) number ≡ Some outcome }
+    ensures answer { IfOk result (λ answer.
+        IsLookedUp objects.old.file (read_by objects.new) (name_of name.now) answer) }
+    ensures stays { (number : ℕ) (outcome : Outcome) → read_for (read_by objects.old) number ≡ Some outcome
+        → read_for (read_by objects.new) number ≡ Some outcome }
     ensures only { (number : ℕ) (outcome : Outcome) → read_for (read_by objects.new) number ≡ Some outcome
-        → (read_for (read_by objects.old) number ≡ Some outcome) ⊎ HasOutcome objects.old.file (name_of name.now).path (name_of name.now).name number outcome }
+        → (read_for (read_by objects.old) number ≡ Some outcome)
+        ⊎ HasOutcome objects.old.file (name_of name.now).path (name_of name.now).name number outcome }
     ensures file { objects.new.file ≡ objects.old.file }
 {
     let Some(number) = objects.look_up(alloc, name.path.as_bytes(), name.name.as_bytes())? else {
@@ -87,7 +92,8 @@ fn look_up_name(
 
 /// The status that goes with some answers.
 pub fn status_of(answers: &[LookedUp]) -> Status
-    ensures { (read : List (ℕ × Outcome)) (names : List Name) → length answers.now ≡ length names → AllByRecursion (IsKnown read) answers.now → result ≡ shown_status (answered read names answers.now) }
+    ensures { (read : List (ℕ × Outcome)) (names : List Name) → length answers.now ≡ length names
+        → AllByRecursion (IsKnown read) answers.now → result ≡ shown_status (answered read names answers.now) }
 {
     for answer in answers {
         match answer {
@@ -109,8 +115,8 @@ pub fn put_answers<S: Sink>(
 ) -> Result<(), PutFault>
     requires each { length answers.now ≡ length (names_of names) }
     requires known { AllByRecursion (IsKnown (read_by objects.now)) answers.now }
-    ensures { PutsLines (answer_texts (answered (read_by objects.now) (names_of names.entry) answers.now) ++ decoded_line tally.declared tally.listed ∷ []) result
-        (sink (S.written out.old) (S.faults out.old)) (sink (S.written out.new) (S.faults out.new)) }
+    ensures { PutsLines (answer_texts (answered (read_by objects.now) (names_of names.entry) answers.now)
+        ++ decoded_line tally.declared tally.listed ∷ []) result (S.state out.old) (S.state out.new) }
 {
     let mut line = Vec::new(alloc);
     put_names(alloc, names, answers, objects, &mut line, out)?;
@@ -119,8 +125,7 @@ pub fn put_answers<S: Sink>(
 
 /// Puts how many names are declared, and how many the file lists.
 fn put_tally<S: Sink>(tally: Tally, line: &mut Vec<u8>, out: &mut S) -> Result<(), PutFault>
-    ensures { PutsLines (decoded_line tally.declared tally.listed ∷ []) result
-        (sink (S.written out.old) (S.faults out.old)) (sink (S.written out.new) (S.faults out.new)) }
+    ensures { PutsLines (decoded_line tally.declared tally.listed ∷ []) result (S.state out.old) (S.state out.new) }
 {
     let declared = tally.declared as u64;
     if write_decoded_line(line, declared, u64::from(tally.listed)).is_err() {
@@ -141,7 +146,7 @@ fn put_names<S: Sink>(
     requires each { length answers.now ≡ length (names_of names) }
     requires known { AllByRecursion (IsKnown (read_by objects.now)) answers.now }
     ensures { PutsLines (answer_texts (answered (read_by objects.now) (names_of names.entry) answers.now)) result
-        (sink (S.written out.old) (S.faults out.old)) (sink (S.written out.new) (S.faults out.new)) }
+        (S.state out.old) (S.state out.new) }
 {
     for (k, answer) in answers.iter().enumerate() {
         let Some(name) = names.get(k) else {
@@ -163,7 +168,7 @@ fn put_answer<S: Sink>(
 ) -> Result<(), PutFault>
     requires { IsKnown (read_by objects.now) answer }
     ensures { PutsLines (answer_text (name_of name.now) (answer_of (read_by objects.now) answer) ∷ []) result
-        (sink (S.written out.old) (S.faults out.old)) (sink (S.written out.new) (S.faults out.new)) }
+        (S.state out.old) (S.state out.new) }
 {
     if write_answer(alloc, name, answer, objects, line).is_err() {
         return Err(PutFault::OutOfMemory);
@@ -203,7 +208,8 @@ fn render_declaration(
     declaration: Declaration<'_>,
 ) -> Result<Vec<u8>, AllocError>
     requires { IsLentInside (Ok declaration) }
-    ensures { IfOk result (λ text. text.items ≡ answer_text (name_of name.now) (declared_by (Some (lent_outcome (Ok declaration.entry))))) }
+    ensures { IfOk result (λ text. text.items
+        ≡ answer_text (name_of name.now) (declared_by (Some (lent_outcome (Ok declaration.entry))))) }
 {
     let q = QName {
         path: Bytes::from_slice(alloc, name.path.as_bytes())?,

@@ -1,8 +1,10 @@
-ghost use Rattle.std.specs.Prelude.{◌≡◌, ◌≢◌, ◌<◌, ◌⊎◌, ℕ, List, map};
+ghost use Rattle.std.specs.Prelude.{◌≡◌, ◌≢◌, ◌<◌, ◌⊎◌, IsSome, map};
 ghost use Rattle.std.specs.String.{string_bytes};
 ghost use Rattle.outside.specs.Counts.{Rose};
-ghost use Rattle.exportdata_cmd.specs.Putting.{sink};
-ghost use Rattle.exportdata_cmd.specs.Ending.{EndsWith, IsCutShort, CanList, CanShow, Shows, IsRefusedWord};
+ghost use Rattle.outside.specs.Sinks.{Wrote, WroteSome};
+ghost use Rattle.exportdata_cmd.specs.Endings.{Ending};
+ghost use Rattle.exportdata_cmd.specs.Due.{Due};
+ghost use Rattle.exportdata_cmd.specs.Running.{MayEnd, EndedAs, BrokeOff, FellShort, MayRefuse};
 
 use crate::command::{Stop, carry_out};
 use crate::error_line::ErrorLine;
@@ -24,36 +26,32 @@ pub fn run<R: Threads + Sync, F: Files, S: Sink, E: Sink, G: Gate>(
     err: &mut E,
     _gate: &G,
 ) -> Status
-    // The status has its cause, and both sinks have what goes with it.
-    ensures ends { result ≢ Status.Output → EndsWith (map string_bytes words.now) (F.held files.old) result
-        (sink (S.written out.old) (S.faults out.old)) (sink (S.written out.new) (S.faults out.new))
-        (sink (E.written err.old) (E.faults err.old)) (sink (E.written err.new) (E.faults err.new)) }
+    // It ends as is due, or for a cause otherwise, and leaves just that.
+    ensures ends { result ≢ Status.Output → (end : Ending)
+        × MayEnd (map string_bytes words.now) (F.held files.old) (F.faults files.old) (F.faults files.new) end
+        × EndedAs end result (S.state out.old) (S.state out.new) (E.state err.old) (E.state err.new) }
 
-    // Only a sink's fault makes it Output, and each does. What was due was then cut short.
-    ensures output { result ≡ Status.Output → Rose (S.faults out.old) (S.faults out.new) ⊎ Rose (E.faults err.old) (E.faults err.new) }
-    ensures out_failed { S.faults out.old < S.faults out.new → result ≡ Status.Output }
-    ensures err_failed { E.faults err.old < E.faults err.new → result ≡ Status.Output }
-    ensures cut_short { result ≡ Status.Output → IsCutShort (map string_bytes words.now) (F.held files.old)
-        (sink (S.written out.old) (S.faults out.old)) (sink (S.written out.new) (S.faults out.new))
-        (sink (E.written err.old) (E.faults err.old)) (sink (E.written err.new) (E.faults err.new)) }
+    // What is due is left, unless memory or nodes are wanting or a fault was met.
+    ensures complete { (due : Ending) → Due (map string_bytes words.now) (F.held files.old) due
+        → IsSome (F.held files.old)
+        → ¬ Rose (F.faults files.old) (F.faults files.new)
+        → ¬ Rose (S.state out.old).faults (S.state out.new).faults
+        → ¬ Rose (E.state err.old).faults (E.state err.new).faults
+        → EndedAs due result (S.state out.old) (S.state out.new) (E.state err.old) (E.state err.new)
+        ⊎ FellShort (map string_bytes words.now) (F.held files.old) result }
+
+    // Only a sink's fault makes it Output, and each does. Then it broke off before it had ended so.
+    ensures output { result ≡ Status.Output → Rose (S.state out.old).faults (S.state out.new).faults
+        ⊎ Rose (E.state err.old).faults (E.state err.new).faults }
+    ensures out_failed { (S.state out.old).faults < (S.state out.new).faults → result ≡ Status.Output }
+    ensures err_failed { (E.state err.old).faults < (E.state err.new).faults → result ≡ Status.Output }
+    ensures cut_short { result ≡ Status.Output → (end : Ending)
+        × MayEnd (map string_bytes words.now) (F.held files.old) (F.faults files.old) (F.faults files.new) end
+        × BrokeOff end (S.state out.old) (S.state out.new) (E.state err.old) (E.state err.new) }
 
     // Only a fault of the files makes it Files, and the files stay as they are.
     ensures files { result ≡ Status.Files → Rose (F.faults files.old) (F.faults files.new) }
     ensures kept { F.held files.new ≡ F.held files.old }
-
-    // What can be shown is shown, unless its types have too many nodes, memory is wanting or a fault was met.
-    ensures shown { CanShow (map string_bytes words.now) (F.held files.old)
-        → ¬ Rose (F.faults files.old) (F.faults files.new)
-        → ¬ Rose (S.faults out.old) (S.faults out.new)
-        → ¬ Rose (E.faults err.old) (E.faults err.new)
-        → ((lines : List (List ℕ)) × Shows (map string_bytes words.now) (F.held files.old) result lines) ⊎ ((result ≡ Status.Memory) ⊎ (result ≡ Status.Limit)) }
-
-    // What can be listed is listed, unless memory is wanting or a fault was met.
-    ensures complete { CanList (map string_bytes words.now) (F.held files.old)
-        → ¬ Rose (F.faults files.old) (F.faults files.new)
-        → ¬ Rose (S.faults out.old) (S.faults out.new)
-        → ¬ Rose (E.faults err.old) (E.faults err.new)
-        → (result ≡ Status.Done) ⊎ (result ≡ Status.Memory) }
 {
     match carry_out(alloc, words, files, out) {
         Ok(status) => status,
@@ -64,8 +62,10 @@ pub fn run<R: Threads + Sync, F: Files, S: Sink, E: Sink, G: Gate>(
 
 /// Refuses words of which the one after these isn't text.
 pub fn refuse_words<E: Sink>(alloc: Global, words: &[String], err: &mut E) -> Status
-    ensures refused { IsRefusedWord (map string_bytes words.now) result
-        (sink (E.written err.old) (E.faults err.old)) (sink (E.written err.new) (E.faults err.new)) }
+    ensures ends { result ≢ Status.Output → (end : Ending) × MayRefuse (map string_bytes words.now) end
+        × (result ≡ end.status) × Wrote (E.state err.old) (E.state err.new) end.error }
+    ensures cut_short { result ≡ Status.Output → (end : Ending) × MayRefuse (map string_bytes words.now) end
+        × WroteSome (E.state err.old) (E.state err.new) end.error }
 {
     let wrong = first_wrong_word(words);
     report(alloc, ErrorLine::WrongWord(wrong.number), err)

@@ -1,5 +1,6 @@
 -- A sink in memory.
-use Rattle.std.specs.Prelude.{ℕ, ◌-◌, Bool, ◌&&◌, nat_le, ◌==◌, if◌then◌else◌, min, List, ◌++◌, length, take, find, Option, is_none, unwrap_or}
+use Rattle.std.specs.Prelude.{ℕ, ◌-◌, Bool, ◌&&◌, nat_le, ◌==◌, if◌then◌else◌, min, List, ◌++◌, length, take, find}
+use Rattle.std.specs.Prelude.{Option, is_none, unwrap_or}
 use Rattle.std.specs.Option.{option_map}
 use Rattle.outside.specs.Counts.{one_more}
 

@@ -37,8 +37,10 @@ pub trait Files {
     /// others. After a refusal `into` is as it was.
     fn fetch(&mut self, name: &str, limit: usize, into: &mut Vec<u8>) -> Result<(), FetchFault>
         ensures appended { OnOk result (Appends (held self.old) name.now limit into.old.items into.new.items) }
-        ensures missing { IsErrOf result FetchFault.Missing → IfSome (held self.old) (λ files. get files name.now ≡ None) }
-        ensures too_long { IsErrOf result FetchFault.TooLong → IfSome (held self.old) (λ files. IsLonger (get files name.now) limit) }
+        ensures missing { IsErrOf result FetchFault.Missing
+            → IfSome (held self.old) (λ files. get files name.now ≡ None) }
+        ensures too_long { IsErrOf result FetchFault.TooLong
+            → IfSome (held self.old) (λ files. IsLonger (get files name.now) limit) }
         ensures failed { IsErrOf result FetchFault.Failed → Rose (faults self.old) (faults self.new) }
         ensures refused { OnErr result (into.new.items ≡ into.old.items) }
         ensures kept { held self.new ≡ held self.old }
@@ -46,9 +48,11 @@ pub trait Files {
 
     /// Gives the named file these bytes, whether it was there or not. After `Failed` nothing is known of this file.
     fn store(&mut self, name: &str, bytes: &[u8]) -> Result<(), StoreFault>
-        ensures stored { OnOk result (IfBothHeld (held self.old) (held self.new) (λ before after. after ≡ insert before name.now bytes.now)) }
+        ensures stored { OnOk result (IfBothHeld (held self.old) (held self.new)
+            (λ before after. after ≡ insert before name.now bytes.now)) }
         ensures failed { IsErrOf result StoreFault.Failed → Rose (faults self.old) (faults self.new) }
-        ensures others { IsErrOf result StoreFault.Failed → IfBothHeld (held self.old) (held self.new) (SameElsewhere name.now) }
+        ensures others { IsErrOf result StoreFault.Failed
+            → IfBothHeld (held self.old) (held self.new) (SameElsewhere name.now) }
         ensures no_memory { IsErrOf result StoreFault.OutOfMemory → held self.new ≡ held self.old }
         ensures counted { faults self.old ≤ faults self.new };
 }

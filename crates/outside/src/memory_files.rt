@@ -1,4 +1,5 @@
-ghost use Rattle.std.specs.Prelude.{◌≡◌, ◌≤◌, ◌↔◌, ℕ, [], Option, None, Some, map, OnOk, OnErr, IfOk, IsErrOf, IfSome, IsTrue, Contains};
+ghost use Rattle.std.specs.Prelude.{◌≡◌, ◌≤◌, ◌↔◌, ℕ, [], Option, None, Some, map, OnOk, OnErr, IfOk, IsErrOf, IfSome};
+ghost use Rattle.std.specs.Prelude.{IsTrue, Contains};
 ghost use Rattle.std.specs.Option.{option_map};
 ghost use Rattle.std.specs.FinMap.{get, insert};
 ghost use Rattle.std.specs.Ordering.{nat_cmp};
@@ -26,7 +27,12 @@ impl Model for MemoryFiles {
 
     ghost coded = { shelf_code };
 
-    ghost view = { λ s. record { files = files_of s.files.items; failing = s.failing.items; calls = s.calls; faults = s.faults } };
+    ghost view = { λ s. record {
+      files = files_of s.files.items;
+      failing = s.failing.items;
+      calls = s.calls;
+      faults = s.faults;
+    } };
 }
 
 impl MemoryFiles {
@@ -37,7 +43,12 @@ impl MemoryFiles {
         files: Vec<(String, Vec<u8>)>,
         failing: Vec<u64>,
     ) -> Result<MemoryFiles, AllocError>
-        ensures { IfOk result (λ shelf. shelf ≡ record { files = files_of files.items; failing = failing.items; calls = 0; faults = 0 }) }
+        ensures { IfOk result (λ shelf. shelf ≡ record {
+          files = files_of files.items;
+          failing = failing.items;
+          calls = 0;
+          faults = 0;
+        }) }
     {
         Ok(MemoryFiles {
             alloc,
@@ -110,7 +121,8 @@ impl Files for MemoryFiles {
 
     fn store(&mut self, name: &str, bytes: &[u8]) -> Result<(), StoreFault>
         ensures planned { IsErrOf result StoreFault.Failed ↔ Contains self.old.failing self.old.calls }
-        ensures stored { OnOk result (self.new ≡ record (called self.old) { files = insert self.old.files name.now bytes.now }) }
+        ensures stored { OnOk result
+            (self.new ≡ record (called self.old) { files = insert self.old.files name.now bytes.now }) }
         ensures refused { OnErr result (self.new ≡ called self.old) }
         ensures counted { self.old.faults ≤ self.new.faults }
         ensures failed { IsErrOf result StoreFault.Failed → Rose self.old.faults self.new.faults }

@@ -1,4 +1,5 @@
-ghost use Rattle.std.specs.Prelude.{is_ok, ◌↔◌, max, ◌≡◌, ◌≤◌, ◌<◌, ◌+◌, ◌-◌, ◌++◌, ℕ, [], List, length, vec_len, Option, None, Some, IsNone, IsSome, IfOk, OnOk, OnErr, IsTrue};
+ghost use Rattle.std.specs.Prelude.{is_ok, ◌↔◌, max, ◌≡◌, ◌≤◌, ◌<◌, ◌+◌, ◌-◌, ◌++◌, ℕ, [], List, length, vec_len};
+ghost use Rattle.std.specs.Prelude.{Option, None, Some, IsNone, IsSome, IfOk, OnOk, OnErr, IsTrue};
 ghost use Rattle.std.specs.Vec.{vec_capacity};
 ghost use Rattle.outside.specs.Counts.{Rose};
 ghost use Rattle.outside.specs.MemorySink.{Tray, planned, goes_whole, added, after_put};
@@ -20,7 +21,13 @@ pub struct MemorySink {
 impl Model for MemorySink {
     ghost Value = { Tray };
 
-    ghost view = { λ s. record { written = s.bytes.items; room = s.room; failing = s.failing.items; puts = s.puts; faults = s.faults } };
+    ghost view = { λ s. record {
+      written = s.bytes.items;
+      room = s.room;
+      failing = s.failing.items;
+      puts = s.puts;
+      faults = s.faults;
+    } };
 
     ghost invariant = { λ s. vec_len s.bytes + s.room ≤ vec_capacity s.bytes };
 }
@@ -29,7 +36,13 @@ impl MemorySink {
     /// A sink with nothing written and no room. Puts are numbered from 0. A pair (k, n) makes put k fail after the
     /// first n bytes of its piece, or after the whole piece where it is shorter; the first pair of a number counts.
     pub fn new(alloc: Global, failing: Vec<(u64, u64)>) -> Result<MemorySink, AllocError>
-        ensures { IfOk result (λ tray. tray ≡ record { written = []; room = 0; failing = failing.items; puts = 0; faults = 0 }) }
+        ensures { IfOk result (λ tray. tray ≡ record {
+          written = [];
+          room = 0;
+          failing = failing.items;
+          puts = 0;
+          faults = 0;
+        }) }
     {
         Ok(MemorySink {
             bytes: Vec::new(alloc),
@@ -83,9 +96,7 @@ impl MemorySink {
 }
 
 impl Sink for MemorySink {
-    ghost written = { λ tray. Some tray.written };
-
-    ghost faults = { λ tray. tray.faults };
+    ghost state = { λ tray. record { written = Some tray.written; faults = tray.faults } };
 
     fn put(&mut self, piece: &[u8]) -> Result<(), SinkFault>
         ensures planned { IsTrue (is_ok result) ↔ IsTrue (goes_whole self.old piece.now) }

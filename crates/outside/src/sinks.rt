@@ -1,6 +1,5 @@
-ghost use Rattle.std.specs.Prelude.{◌≡◌, ◌≤◌, ◌++◌, ℕ, List, Option, OnOk, OnErr};
-ghost use Rattle.outside.specs.Counts.{Rose};
-ghost use Rattle.outside.specs.Sinks.{IfBothWritten, AddsPrefix};
+ghost use Rattle.std.specs.Prelude.{◌≤◌, OnOk, OnErr};
+ghost use Rattle.outside.specs.Sinks.{SinkState, Wrote, WroteSome};
 
 use thiserror::Error;
 
@@ -13,15 +12,11 @@ pub enum SinkFault {
 
 /// A place where bytes go. A contract sees what was written, where the object tells it, and a count of its faults.
 pub trait Sink {
-    ghost written: { Self → Option (List ℕ) };
-
-    ghost faults: { Self → ℕ };
+    ghost state: { Self → SinkState };
 
     /// Writes the piece. After a fault the first bytes of the piece were written, or none. It takes no memory.
     fn put(&mut self, piece: &[u8]) -> Result<(), SinkFault>
-        ensures whole { OnOk result (IfBothWritten (written self.old) (written self.new) (λ before after. after ≡ before ++ piece.now)) }
-        ensures sound { OnOk result (faults self.new ≡ faults self.old) }
-        ensures part { OnErr result (IfBothWritten (written self.old) (written self.new) (AddsPrefix piece.now)) }
-        ensures failed { OnErr result (Rose (faults self.old) (faults self.new)) }
-        ensures counted { faults self.old ≤ faults self.new };
+        ensures whole { OnOk result (Wrote (state self.old) (state self.new) piece.now) }
+        ensures part { OnErr result (WroteSome (state self.old) (state self.new) piece.now) }
+        ensures counted { (state self.old).faults ≤ (state self.new).faults };
 }

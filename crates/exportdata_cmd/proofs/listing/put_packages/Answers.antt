@@ -1,8 +1,8 @@
 use Rattle.std.proofs.Common.{arith, sym, ◌∙◌, ap, refl, Err}
 use Rattle.std.proofs.lemmas.Result.{err_from_is_err_and}
 use Rattle.exportdata_cmd.specs.Listing.{lines_of_package}
-use Rattle.exportdata_cmd.proofs.Indexed.{package_there}
-use Rattle.exportdata_cmd.proofs.Puts.{puts_as, loop_goes_on, loop_stops}
+use Rattle.exportdata_cmd.proofs.ListingLemmas.{package_there}
+use Rattle.exportdata_cmd.proofs.PuttingLemmas.{puts_as, loop_goes_on, loop_stops}
 use Rattle.exportdata_cmd.proofs.listing.put_packages.Goals as goal
 
 pub returns-in_err-put_package : goal.returns-in_err-put_package

@@ -4,7 +4,7 @@ use Rattle.command_words.specs.Texts.{Name}
 use Rattle.command_words.specs.Forms.{name_of, names_of}
 use Rattle.session.specs.Asked.{read_by}
 use Rattle.exportdata_cmd.specs.LookedUp.{OnlyRead}
-use Rattle.exportdata_cmd.proofs.Shown.{where_no_error, looks_on, reads_on}
+use Rattle.exportdata_cmd.proofs.LookedUpLemmas.{where_no_error, looks_on, reads_on}
 use Rattle.exportdata_cmd.proofs.showing.look_up_names.Goals as goal
 
 pub loop-k-preserved : goal.loop-k-preserved
@@ -12,7 +12,8 @@ loop-k-preserved c =
     let before = c.loop-k.invariant in
     let file = c.args.objects.now.file in
     let here = sym c.in-Some.ensures.exact in
-    let pushed = c.push.ensures.items ∙ where_no_error c.push.result _ _ (sym c.is_err.ensures.value ∙ c.if-is_err.false) in
+    let pushed =
+    c.push.ensures.items ∙ where_no_error c.push.result _ _ (sym c.is_err.ensures.value ∙ c.if-is_err.false) in
     let answer = c.in_ok-answer.ensures in (
       rw (add-one c.loop-k.k, pushed)
           (looks_on file (read_by c.loop-k.objects) (read_by c.look_up_name.new.objects) (names_of c.args.names) c.loop-k.k (name_of c.in-Some.name) c.loop-k.answers.items c.in_ok-answer.answer here answer.stays before.0

@@ -4,7 +4,7 @@ use Rattle.command_words.specs.Forms.{names_of}
 use Rattle.session.specs.Asked.{read_by}
 use Rattle.exportdata_cmd.specs.Showing.{answer_texts, decoded_line}
 use Rattle.exportdata_cmd.specs.LookedUp.{answered}
-use Rattle.exportdata_cmd.proofs.Puts.{puts_as, puts_then, puts_fewer}
+use Rattle.exportdata_cmd.proofs.PuttingLemmas.{puts_as, puts_then, puts_fewer}
 use Rattle.exportdata_cmd.proofs.showing.put_answers.Goals as goal
 
 pub returns-in_err-put_names : goal.returns-in_err-put_names

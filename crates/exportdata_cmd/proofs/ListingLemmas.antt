@@ -1,5 +1,6 @@
 -- What a look-up in an index says of its lists.
-use Rattle.std.proofs.Common.{unwrap_or, ◌≡◌, ◌<◌, arith, ℕ, suc, zero, List, [], ◌∷◌, ◌++◌, length, Option, None, Some, slice_get, refl, sym, ap}
+use Rattle.std.proofs.Common.{unwrap_or, ◌≡◌, ◌<◌, arith, ℕ, suc, zero, List, [], ◌∷◌, ◌++◌, length, Option, None, Some}
+use Rattle.std.proofs.Common.{slice_get, refl, sym, ap}
 use Rattle.std.specs.List.{flat_map}
 use Rattle.std.specs.Option.{option_map, option_map_or, option_and_then}
 use Rattle.std.proofs.lemmas.List.Concat.{flat_map_single}
@@ -19,7 +20,8 @@ abbrev entry_of : Option (List ℕ × ℕ) → Option Entry
 entry_of None = None
 entry_of (Some p) = Some (record { name = p.0; offset = p.1 })
 
-found_entry : (o : Option Entry) (name : List ℕ) (offset : ℕ) → ◌≡◌ {A = Option (List ℕ × ℕ)} (Some (name, offset)) (option_map (λ e. (e.name, e.offset)) o)
+found_entry : (o : Option Entry) (name : List ℕ) (offset : ℕ)
+    → ◌≡◌ {A = Option (List ℕ × ℕ)} (Some (name, offset)) (option_map (λ e. (e.name, e.offset)) o)
     → o ≡ Some (record { name = name; offset = offset })
 found_entry None name offset e = cc
 found_entry (Some entry) name offset e = ap entry_of (sym e)
@@ -31,7 +33,8 @@ found_in None j name offset e = cc
 found_in (Some p) j name offset e = found_entry (slice_get p.entries j) name offset e
 
 -- a name that is found
-pub found_name : (packages : List Package) (k j : ℕ) (name : List ℕ) (offset : ℕ) → Some (name, offset) ≡ name_at packages k j
+pub found_name : (packages : List Package) (k j : ℕ) (name : List ℕ) (offset : ℕ)
+    → Some (name, offset) ≡ name_at packages k j
     → slice_get (entries_at packages k) j ≡ Some (record { name = name; offset = offset })
 found_name packages k j name offset e = found_in (slice_get packages k) j name offset e
 
@@ -39,7 +42,8 @@ found_name packages k j name offset e = found_in (slice_get packages k) j name o
 abbrev heading_line : List ℕ × List ℕ → List Line
 heading_line p = package_line p.0 p.1 ∷ []
 
-headed : (o : Option Package) (path name : List ℕ) → ◌≡◌ {A = Option (List ℕ × List ℕ)} (Some (path, name)) (option_map (λ p. (p.path, p.name)) o)
+headed : (o : Option Package) (path name : List ℕ)
+    → ◌≡◌ {A = Option (List ℕ × List ℕ)} (Some (path, name)) (option_map (λ p. (p.path, p.name)) o)
     → option_map_or lines_of_package o [] ≡ package_line path name ∷ name_lines (option_map_or (λ p. p.entries) o [])
 headed None path name e = cc
 headed (Some p) path name e =
@@ -57,7 +61,8 @@ package_there [] k below = absurd (omega arith)
 package_there (p ∷ packages) zero below = (p, refl, refl)
 package_there (p ∷ packages) (suc k) below = package_there packages k (omega arith)
 
-counted : (o : Option Package) → unwrap_or (option_map (λ p. length p.entries) o) 0 ≡ length (option_map_or (λ p. p.entries) o [])
+counted : (o : Option Package)
+    → unwrap_or (option_map (λ p. length p.entries) o) 0 ≡ length (option_map_or (λ p. p.entries) o [])
 counted None = refl
 counted (Some p) = refl
 

@@ -1,6 +1,6 @@
 use Rattle.std.proofs.Common.{arith}
 use Rattle.std.proofs.lemmas.Grind.{common_steps}
-use Rattle.exportdata_cmd.proofs.error_line.ErrorLine.put_text.Goals as goal
+use Rattle.exportdata_cmd.proofs.error_line.ErrorLine.put_line.Goals as goal
 
 pub returns-in_ok-put_number-in-WrongWord : goal.returns-in_ok-put_number-in-WrongWord
 returns-in_ok-put_number-in-WrongWord c = rw c.in-WrongWord.is (grind (arith, common_steps))
