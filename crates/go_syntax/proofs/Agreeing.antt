@@ -5,7 +5,7 @@ use Rattle.go_syntax.specs.declared.symbols.Symbol.TheVariants as t
 use Rattle.go_syntax.specs.declared.symbols.Ident.{Ident}
 use Rattle.go_syntax.specs.declared.faults.Fault.TheVariants.{Unexpected, Deep, DotImport, Call}
 use Rattle.go_syntax.specs.declared.tree.NameExpr.{NameExpr}
-use Rattle.go_syntax.specs.Reading.{Reply, told_at, ◌>>=◌, past, choose, starts, is_dot, is_comma, Shape, series_end, series_by, series_item, series, rows, row, chain_end, chain, Fit, start_of, placed}
+use Rattle.go_syntax.specs.Reading.{Reply, told_at, ◌>>=◌, past, choose, starts, is_dot, is_comma, ListForm, series_end, series_by, series_item, series, rows, row, chain_end, chain, Fit, start_of, placed}
 use Rattle.go_syntax.specs.Names.{plain, IsTypeName, own, of_package, IsNames, one, more, selected_by, dotted, names_more, names_at}
 use Rattle.go_syntax.proofs.NameReads.{after_ident}
 use Rattle.go_syntax.proofs.Rows.{Eats, series_is, chain_is}
@@ -85,11 +85,11 @@ names_again ts names rest (more i c us ns r w) e = ap (λ (m : Reply (List Ident
 
 -- ---- series
 
-pub series_opens : {X Y : Type 0} (S : Shape X Y) (item : List Symbol → Reply X) (later : List Symbol → Reply Y) (ts : List Symbol) → starts S.closes ts ≡ false → series_by S item later ts ≡ series_item S item later ts
+pub series_opens : {X Y : Type 0} (S : ListForm X Y) (item : List Symbol → Reply X) (later : List Symbol → Reply Y) (ts : List Symbol) → starts S.closes ts ≡ false → series_by S item later ts ≡ series_item S item later ts
 series_opens S item later [] e = refl
 series_opens S item later (k ∷ ts) e = rw e refl
 
-module _ {X Y : Type 0} (S : Shape X Y) where
+module _ {X Y : Type 0} (S : ListForm X Y) where
   pub end_last : (later : List Symbol → Reply Y) (n m : ℕ) (x : X) (k : Symbol) (rest : List Symbol) → S.closes k ≡ true → m ≤ n → Agrees n m (S.cons x S.nil) rest (series_end S later x (k ∷ rest))
   end_last later n m x k rest c f = rw c (refl, refl, f)
 
@@ -102,7 +102,7 @@ module _ {X Y : Type 0} (S : Shape X Y) where
       → Agrees n m (S.cons x S.nil) rest (series_end S later x (k ∷ c ∷ rest))
   end_final later n m x k c rest a s l e f = rw (a, s, l, e) (refl, refl, f)
 
-module _ {X Y : Type 0} (S : Shape X Y) (item : List Symbol → Reply X) (eats_one : Eats item) where
+module _ {X Y : Type 0} (S : ListForm X Y) (item : List Symbol → Reply X) (eats_one : Eats item) where
   pub series_none : (n : ℕ) (k : Symbol) (rest : List Symbol) → S.closes k ≡ true → Agrees n 0 S.nil rest (series S item (k ∷ rest))
   series_none n k rest e = rw (series_is S item eats_one (k ∷ rest), e) (refl, refl, omega arith)
 

@@ -2,7 +2,7 @@
 use Rattle.std.proofs.Common.{◌≡◌, ℕ, ◌<◌, Bool, true, false, if◌then◌else◌, List, [], ◌∷◌, length, Result, Ok, Err, refl, sym, ap, subst, arith}
 use Rattle.go_syntax.specs.declared.symbols.Symbol.{Symbol}
 use Rattle.go_syntax.specs.declared.faults.Fault.{Fault}
-use Rattle.go_syntax.specs.Reading.{Reply, ◌>>=◌, unexpected, past, choose, Shape, series_more, series_close, series_next, series_end, series_item, series_by, series, rows, row, chain_more, chain_end, chain_by, chain}
+use Rattle.go_syntax.specs.Reading.{Reply, ◌>>=◌, unexpected, past, choose, ListForm, series_more, series_close, series_next, series_end, series_item, series_by, series, rows, row, chain_more, chain_end, chain_by, chain}
 use Rattle.go_syntax.proofs.Viable.{ReadsAt, Sample, Kind, Past, After, eats, done_reads, choose_reads, choose_reads_on, past_reads, bind_reads, value_reads}
 use Rattle.go_syntax.proofs.Steps.{Local, steps_is, steps_read}
 
@@ -36,12 +36,12 @@ eats_of F one never h ts z e = eats F one ts z.0 z.1 (λ us w. never z.0 us w) (
 
 -- ---- series
 
-next_same : {X Y : Type 0} (S : Shape X Y) (f g : List Symbol → Reply Y) (x : X) (vs : List Symbol) (b : Bool) → f vs ≡ g vs
+next_same : {X Y : Type 0} (S : ListForm X Y) (f g : List Symbol → Reply Y) (x : X) (vs : List Symbol) (b : Bool) → f vs ≡ g vs
     → (if b then series_close S x vs else series_more S f x vs) ≡ (if b then series_close S x vs else series_more S g x vs)
 next_same S f g x vs true h = refl
 next_same S f g x vs false h = ap (λ (m : Reply _). m >>= λ ys. Ok (S.cons x ys.0, ys.1)) h
 
-pub series_local : {X Y : Type 0} (S : Shape X Y) (one : List Symbol → Reply X) → Eats one → Local (series_by S one)
+pub series_local : {X Y : Type 0} (S : ListForm X Y) (one : List Symbol → Reply X) → Eats one → Local (series_by S one)
 series_local S one eats_one f g ts h =
     ap (choose (past S.closes ts) (λ rest. Ok (S.nil, rest)))
     (bind_same (one ts) _ _ (λ z e. ap (choose (past S.closes z.1) (λ rest. Ok (S.cons z.0 S.nil, rest)))
@@ -50,14 +50,14 @@ series_local S one eats_one f g ts h =
     let fewer : length vs < length z.1 = past_shorter S.sep z.1 vs p in
     next_same S f g z.0 vs (S.final z.0) (h vs (omega arith))))))
 
-pub series_is : {X Y : Type 0} (S : Shape X Y) (one : List Symbol → Reply X) → Eats one → (ts : List Symbol) → series S one ts ≡ series_by S one (series S one) ts
+pub series_is : {X Y : Type 0} (S : ListForm X Y) (one : List Symbol → Reply X) → Eats one → (ts : List Symbol) → series S one ts ≡ series_by S one (series S one) ts
 series_is S one eats_one ts = steps_is (series_by S one) (series_local S one eats_one) ts
 
 pub row_is : {X : Type 0} (closes : Symbol → Bool) (one : List Symbol → Reply X) → Eats one → (ts : List Symbol) → row closes one ts ≡ series_by (rows closes) one (row closes one) ts
 row_is closes one eats_one ts = series_is (rows closes) one eats_one ts
 
 -- what a series of F is
-pub record IsSeries {X Y : Type 0} (S : Shape X Y) (F : List Symbol → X → List Symbol → Type 0) (Q : List Symbol → Y → List Symbol → Type 0) : Type 0 where
+pub record IsSeries {X Y : Type 0} (S : ListForm X Y) (F : List Symbol → X → List Symbol → Type 0) (Q : List Symbol → Y → List Symbol → Type 0) : Type 0 where
   pub between : Kind S.sep
   pub ending : Kind S.closes
   pub none : (c : ℕ) (rest : List Symbol) → Q (ending.make c ∷ rest) S.nil rest
@@ -65,7 +65,7 @@ pub record IsSeries {X Y : Type 0} (S : Shape X Y) (F : List Symbol → X → Li
   pub more : (s : ℕ) (ts us : List Symbol) (x : X) (ys : Y) (rest : List Symbol) → S.final x ≡ false → F ts x (between.make s ∷ us) → Q us ys rest → Q ts (S.cons x ys) rest
   pub final : (s c : ℕ) (ts : List Symbol) (x : X) (rest : List Symbol) → S.final x ≡ true → F ts x (between.make s ∷ ending.make c ∷ rest) → Q ts (S.cons x S.nil) rest
 
-module _ {X Y : Type 0} (S : Shape X Y) (F : List Symbol → X → List Symbol → Type 0) (Q : List Symbol → Y → List Symbol → Type 0) (R : IsSeries S F Q) where
+module _ {X Y : Type 0} (S : ListForm X Y) (F : List Symbol → X → List Symbol → Type 0) (Q : List Symbol → Y → List Symbol → Type 0) (R : IsSeries S F Q) where
   abbrev next_as : Bool → (List Symbol → Reply Y) → X → List Symbol → Reply Y
   next_as b more x vs = if b then series_close S x vs else series_more S more x vs
 

@@ -5,7 +5,7 @@ use Rattle.go_syntax.specs.declared.symbols.Symbol.{Symbol}
 use Rattle.go_syntax.specs.declared.faults.Fault.{Fault}
 use Rattle.go_syntax.specs.declared.faults.Stop.{Stop}
 use Rattle.go_syntax.specs.declared.faults.Stop.TheVariants as stop
-use Rattle.go_syntax.specs.Reading.{Reply, ◌>>=◌, past, is_semicolon, Shape, series_by, series, rows, row, chain_by, chain, Fit, fitting, with_fit, Fails}
+use Rattle.go_syntax.specs.Reading.{Reply, ◌>>=◌, past, is_semicolon, ListForm, series_by, series, rows, row, chain_by, chain, Fit, fitting, with_fit, Fails}
 use Rattle.go_syntax.proofs.Rows.{Eats, series_is, chain_is, past_shorter}
 
 -- what is made of what is read
@@ -25,7 +25,7 @@ through_same f g (Err e) h = refl
 
 -- ---- series
 
-module _ {X Y Z : Type 0} (S : Shape X Y) (one : List Symbol → Reply X) (eats_one : Eats one) (f : Y → Z) where
+module _ {X Y Z : Type 0} (S : ListForm X Y) (one : List Symbol → Reply X) (eats_one : Eats one) (f : Y → Z) where
   opens : (rest : List Symbol) → through f (series S one rest) ≡ through f (series_by S one (series S one) rest)
   opens rest = ap (through f) (series_is S one eats_one rest)
 

@@ -23,13 +23,16 @@ written names ty values = record { names = names; ty = ty; values = values }
 
 -- ExpressionList = Expression { "," Expression }
 pub data IsExprs : ℕ → List Symbol → List Expr → List Symbol → Type 0 where
-  one_expr : (n : ℕ) (ts : List Symbol) (x : Operand) (rest : List Symbol) → IsExpr 5 n ts x rest → IsExprs n ts (x.expr ∷ []) rest
-  more_exprs : (m n c : ℕ) (ts : List Symbol) (x : Operand) (us : List Symbol) (xs : List Expr) (rest : List Symbol) → IsExpr 5 m ts x (t.Comma c ∷ us) → IsExprs n us xs rest
+  one_expr : (n : ℕ) (ts : List Symbol) (x : Operand) (rest : List Symbol) → IsExpr 5 n ts x rest
+      → IsExprs n ts (x.expr ∷ []) rest
+  more_exprs : (m n c : ℕ) (ts : List Symbol) (x : Operand) (us : List Symbol) (xs : List Expr) (rest : List Symbol)
+      → IsExpr 5 m ts x (t.Comma c ∷ us) → IsExprs n us xs rest
       → IsExprs (max m n) ts (x.expr ∷ xs) rest
 
 -- ConstSpec = IdentifierList [ [ Type ] "=" ExpressionList ]
 pub data IsConstSpec : ℕ → List Symbol → Written → List Symbol → Type 0 where
-  as_before : (ts : List Symbol) (i : Ident) (names : List Ident) (rest : List Symbol) → IsNames ts (i ∷ names) rest → IsConstSpec 0 ts (written (i ∷ names) None []) rest
+  as_before : (ts : List Symbol) (i : Ident) (names : List Ident) (rest : List Symbol) → IsNames ts (i ∷ names) rest
+      → IsConstSpec 0 ts (written (i ∷ names) None []) rest
   untyped : (n a : ℕ) (ts : List Symbol) (i : Ident) (names : List Ident) (us : List Symbol) (values : List Expr) (rest : List Symbol) → IsNames ts (i ∷ names) (t.Assign a ∷ us) → IsExprs n us values rest
       → IsConstSpec n ts (written (i ∷ names) None values) rest
   typed : (m n a : ℕ) (ts : List Symbol) (i : Ident) (names : List Ident) (us : List Symbol) (ty : TypeExpr) (vs : List Symbol) (values : List Expr) (rest : List Symbol)

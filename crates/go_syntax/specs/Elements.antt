@@ -9,7 +9,9 @@ use Rattle.go_syntax.specs.declared.tree.ElemExpr.{ElemExpr}
 use Rattle.go_syntax.specs.declared.tree.ElemExpr.TheVariants as elem
 use Rattle.go_syntax.specs.declared.tree.TypeExpr.{TypeExpr}
 use Rattle.go_syntax.specs.declared.tree.TypeExpr.TheVariants as y
-use Rattle.go_syntax.specs.Reading.{Reply, ◌>>=◌, unexpected, too_deep, past, is_bar, is_tilde, is_comma, is_open_paren, is_open_bracket, is_close_bracket, is_open_brace, is_close_brace, is_semicolon, choose, peek, Shape, series_item, series, chain, start_of, placed, Fit, fits}
+use Rattle.go_syntax.specs.Reading.{Reply, ◌>>=◌, unexpected, too_deep, past, is_bar, is_tilde, is_comma, is_open_paren}
+use Rattle.go_syntax.specs.Reading.{is_open_bracket, is_close_bracket, is_open_brace, is_close_brace, is_semicolon}
+use Rattle.go_syntax.specs.Reading.{choose, peek, ListForm, series_item, series, chain, start_of, placed, Fit, fits}
 use Rattle.go_syntax.specs.Names.{ident_at, ident_or, dotted}
 use Rattle.go_syntax.specs.declared.tree.NameExpr.{NameExpr}
 use Rattle.go_syntax.specs.Grammar.{named, instance, term}
@@ -17,7 +19,7 @@ use Rattle.go_syntax.specs.Params.{sig_at}
 
 -- ---- names of types
 
-abbrev pub type_list : ℕ → Shape (Fit TypeExpr) (Fit (List TypeExpr))
+abbrev pub type_list : ℕ → ListForm (Fit TypeExpr) (Fit (List TypeExpr))
 type_list n = fits n is_comma is_close_bracket
 
 -- after the bracket: one argument at least
@@ -68,10 +70,12 @@ abbrev pub tilde_at : ℕ → (List Symbol → Reply (Fit TypeExpr)) → List Sy
 tilde_at zero lower ts = too_deep ts
 tilde_at (suc n) lower ts = past is_tilde ts >>= λ us. tilde_by lower (start_of ts) us
 
-abbrev pub type_first : (List Symbol → Reply (Fit TypeExpr)) → (List Symbol → Reply (Fit TypeExpr)) → List Symbol → Reply (Fit TypeExpr)
+abbrev pub type_first : (List Symbol → Reply (Fit TypeExpr)) → (List Symbol → Reply (Fit TypeExpr)) → List Symbol
+    → Reply (Fit TypeExpr)
 type_first inner lower ts = placed inner ts >>= λ ty. after_type lower ty.0.0.0 ty.0.0.1 ty.0.1 ty.1
 
-abbrev pub union_at : ℕ → (List Symbol → Reply (Fit TypeExpr)) → (List Symbol → Reply (Fit TypeExpr)) → List Symbol → Reply (Fit TypeExpr)
+abbrev pub union_at : ℕ → (List Symbol → Reply (Fit TypeExpr)) → (List Symbol → Reply (Fit TypeExpr)) → List Symbol
+    → Reply (Fit TypeExpr)
 union_at n inner lower ts = peek is_tilde ts (tilde_at n lower ts) (type_first inner lower ts)
 
 -- ---- elements of interfaces
@@ -100,20 +104,26 @@ abbrev pub embedded_elem : ℕ → (List Symbol → Reply (Fit TypeExpr)) → Id
 embedded_elem zero lower i ts = no_elem ts
 embedded_elem (suc n) lower i ts = name_first n lower i ts >>= λ ty. Ok ((elem.Embedded ty.0.0 i.start, ty.0.1), ty.1)
 
-abbrev pub named_elem : ℕ → (List Symbol → Reply (Fit TypeExpr)) → (List Symbol → Reply (Fit TypeExpr)) → Ident → List Symbol → Reply (Fit ElemExpr)
+abbrev pub named_elem : ℕ → (List Symbol → Reply (Fit TypeExpr)) → (List Symbol → Reply (Fit TypeExpr)) → Ident
+    → List Symbol → Reply (Fit ElemExpr)
 named_elem n inner lower i ts = peek is_open_paren ts (method_by n inner i ts) (embedded_elem n lower i ts)
 
-abbrev pub union_elem : ℕ → (List Symbol → Reply (Fit TypeExpr)) → (List Symbol → Reply (Fit TypeExpr)) → List Symbol → Reply (Fit ElemExpr)
+abbrev pub union_elem : ℕ → (List Symbol → Reply (Fit TypeExpr)) → (List Symbol → Reply (Fit TypeExpr)) → List Symbol
+    → Reply (Fit ElemExpr)
 union_elem n inner lower ts = placed (union_at n inner lower) ts >>= λ ty. Ok ((elem.Embedded ty.0.0.0 ty.0.1, ty.0.0.1), ty.1)
 
-abbrev pub elem_at : ℕ → (List Symbol → Reply (Fit TypeExpr)) → (List Symbol → Reply (Fit TypeExpr)) → List Symbol → Reply (Fit ElemExpr)
+abbrev pub elem_at : ℕ → (List Symbol → Reply (Fit TypeExpr)) → (List Symbol → Reply (Fit TypeExpr)) → List Symbol
+    → Reply (Fit ElemExpr)
 elem_at n inner lower ts = ident_or (ident_at ts) (named_elem n inner lower) (union_elem n inner lower ts)
 
-abbrev pub elems_at : ℕ → (List Symbol → Reply (Fit TypeExpr)) → (List Symbol → Reply (Fit TypeExpr)) → List Symbol → Reply (Fit (List ElemExpr))
+abbrev pub elems_at : ℕ → (List Symbol → Reply (Fit TypeExpr)) → (List Symbol → Reply (Fit TypeExpr)) → List Symbol
+    → Reply (Fit (List ElemExpr))
 elems_at n inner lower ts = series (fits n is_semicolon is_close_brace) (elem_at n inner lower) ts
 
-abbrev pub interface_inside : ℕ → (List Symbol → Reply (Fit TypeExpr)) → (List Symbol → Reply (Fit TypeExpr)) → ℕ → List Symbol → Reply (Fit TypeExpr)
+abbrev pub interface_inside : ℕ → (List Symbol → Reply (Fit TypeExpr)) → (List Symbol → Reply (Fit TypeExpr)) → ℕ
+    → List Symbol → Reply (Fit TypeExpr)
 interface_inside n inner lower at ts = elems_at n inner lower ts >>= λ es. Ok ((y.Interface es.0.0 at, es.0.1), es.1)
 
-abbrev pub interface_by : ℕ → (List Symbol → Reply (Fit TypeExpr)) → (List Symbol → Reply (Fit TypeExpr)) → ℕ → List Symbol → Reply (Fit TypeExpr)
+abbrev pub interface_by : ℕ → (List Symbol → Reply (Fit TypeExpr)) → (List Symbol → Reply (Fit TypeExpr)) → ℕ
+    → List Symbol → Reply (Fit TypeExpr)
 interface_by n inner lower at ts = past is_open_brace ts >>= λ us. interface_inside n inner lower at us

@@ -16,5 +16,5 @@ pub mod Decls
 pub mod Files
 pub mod Outcomes
 pub mod Specs
-pub mod Source
+pub mod TokenView
 pub mod Parsing

@@ -16,12 +16,14 @@ selected p i = record { «package» = Some p; name = i; at = p.start }
 -- TypeName = identifier | identifier "." identifier
 pub data IsTypeName : List Symbol → NameExpr → List Symbol → Type 0 where
   own : (i : Ident) (rest : List Symbol) → IsTypeName (t.Ident i ∷ rest) (plain i) rest
-  of_package : (p : Ident) (d : ℕ) (i : Ident) (rest : List Symbol) → IsTypeName (t.Ident p ∷ t.Dot d ∷ t.Ident i ∷ rest) (selected p i) rest
+  of_package : (p : Ident) (d : ℕ) (i : Ident) (rest : List Symbol)
+      → IsTypeName (t.Ident p ∷ t.Dot d ∷ t.Ident i ∷ rest) (selected p i) rest
 
 -- IdentifierList = identifier { "," identifier }
 pub data IsNames : List Symbol → List Ident → List Symbol → Type 0 where
   one : (i : Ident) (rest : List Symbol) → IsNames (t.Ident i ∷ rest) (i ∷ []) rest
-  more : (i : Ident) (c : ℕ) (ts : List Symbol) (names : List Ident) (rest : List Symbol) → IsNames ts names rest → IsNames (t.Ident i ∷ t.Comma c ∷ ts) (i ∷ names) rest
+  more : (i : Ident) (c : ℕ) (ts : List Symbol) (names : List Ident) (rest : List Symbol) → IsNames ts names rest
+      → IsNames (t.Ident i ∷ t.Comma c ∷ ts) (i ∷ names) rest
 
 -- Tag = [ string_lit ], with the value of the literal, or the empty one
 pub data IsTag : List Symbol → List ℕ → List Symbol → Type 0 where

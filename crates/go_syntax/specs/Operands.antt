@@ -1,5 +1,6 @@
 -- Constant expressions, as they are read. With a tree goes how many more nodes its longest path may have.
-use Rattle.std.specs.Prelude.{ℕ, zero, suc, ◌==◌, min, Bool, true, false, if◌then◌else◌, List, [], ◌∷◌, length, Option, Some, None, Result, Ok, Err}
+use Rattle.std.specs.Prelude.{ℕ, zero, suc, ◌==◌, min, Bool, true, false, if◌then◌else◌, List, [], ◌∷◌, length, Option}
+use Rattle.std.specs.Prelude.{Some, None, Result, Ok, Err}
 use Rattle.go_syntax.specs.declared.symbols.Operator.{Operator}
 use Rattle.go_syntax.specs.declared.symbols.Symbol.{Symbol}
 use Rattle.go_syntax.specs.declared.symbols.Symbol.TheVariants as t
@@ -10,7 +11,8 @@ use Rattle.go_syntax.specs.declared.tree.NameExpr.{NameExpr}
 use Rattle.go_syntax.specs.declared.expressions.Operand.{Operand}
 use Rattle.go_syntax.specs.Reading.{Reply, from_start, ◌>>=◌, unexpected, too_deep, past, peek, is_close_paren}
 use Rattle.go_syntax.specs.Names.{dotted}
-use Rattle.go_syntax.specs.Expressions.{level, is_unary, between_of, literal, constant, conversion, enclosed, unary, binary}
+use Rattle.go_syntax.specs.Expressions.{level, is_unary, between_of, literal, constant, conversion, enclosed, unary}
+use Rattle.go_syntax.specs.Expressions.{binary}
 
 abbrev pub Sized : Type 0
 Sized = Operand × ℕ
@@ -93,7 +95,8 @@ pick (Ok z) q other = q z.0 z.1
 pick (Err f) q other = other
 
 -- what stands behind an operator, where so many nodes may be added above what stands before it
-abbrev pub climb_on : ℕ → (Sized → List Symbol → Reply Sized) → Reader → Operand → List Symbol → Operator → List Symbol → Reply Sized
+abbrev pub climb_on : ℕ → (Sized → List Symbol → Reply Sized) → Reader → Operand → List Symbol → Operator
+    → List Symbol → Reply Sized
 climb_on zero more inner x ts op us = too_deep ts
 climb_on (suc spare) more inner x ts op us = inner us >>= λ y. more (binary op x y.0.0, min spare y.0.1) y.1
 

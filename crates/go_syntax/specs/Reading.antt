@@ -1,5 +1,7 @@
 -- Reading from the front of a list of tokens: what is read and the tokens after it, or a fault.
-use Rattle.std.specs.Prelude.{◌≡◌, ℕ, zero, suc, min, Bool, true, false, List, [], ◌∷◌, ◌++◌, length, if◌then◌else◌, Result, Ok, Err}
+use Rattle.std.specs.Prelude.{◌≡◌, ℕ, zero, suc, min, Bool, true, false, List, [], ◌∷◌, ◌++◌, length, if◌then◌else◌}
+use Rattle.std.specs.Prelude.{Result, Ok, Err}
+use Rattle.std.specs.Borrow.{Bor}
 use Rattle.go_syntax.specs.declared.symbols.Symbol.{Symbol}
 use Rattle.go_syntax.specs.declared.symbols.Symbol.TheVariants as t
 use Rattle.go_lexer.specs.declared.token_kinds.Token.{Token}
@@ -217,36 +219,38 @@ abbrev pub steps : {Y : Type 0} → ((List Symbol → Reply Y) → List Symbol �
 steps step ts = steps_of (suc (length ts)) step ts
 
 -- How items are listed: with such a token between each two, and perhaps after the last, up to the one that closes. A final item has to be the last.
-pub record Shape (X Y : Type 0) : Type 0 where
+pub record ListForm (X Y : Type 0) : Type 0 where
   pub sep : Symbol → Bool
   pub closes : Symbol → Bool
   pub final : X → Bool
   pub nil : Y
   pub cons : X → Y → Y
 
-abbrev pub series_more : {X Y : Type 0} → Shape X Y → (List Symbol → Reply Y) → X → List Symbol → Reply Y
+abbrev pub series_more : {X Y : Type 0} → ListForm X Y → (List Symbol → Reply Y) → X → List Symbol → Reply Y
 series_more S more x vs = more vs >>= λ ys. Ok (S.cons x ys.0, ys.1)
 
-abbrev pub series_close : {X Y : Type 0} → Shape X Y → X → List Symbol → Reply Y
+abbrev pub series_close : {X Y : Type 0} → ListForm X Y → X → List Symbol → Reply Y
 series_close S x vs = past S.closes vs >>= λ rest. Ok (S.cons x S.nil, rest)
 
-abbrev pub series_next : {X Y : Type 0} → Shape X Y → (List Symbol → Reply Y) → X → List Symbol → Reply Y
+abbrev pub series_next : {X Y : Type 0} → ListForm X Y → (List Symbol → Reply Y) → X → List Symbol → Reply Y
 series_next S more x vs = if S.final x then series_close S x vs else series_more S more x vs
 
 -- what follows an item
-abbrev pub series_end : {X Y : Type 0} → Shape X Y → (List Symbol → Reply Y) → X → List Symbol → Reply Y
+abbrev pub series_end : {X Y : Type 0} → ListForm X Y → (List Symbol → Reply Y) → X → List Symbol → Reply Y
 series_end S more x us = choose (past S.closes us) (λ rest. Ok (S.cons x S.nil, rest)) (past S.sep us >>= λ vs. series_next S more x vs)
 
-abbrev pub series_item : {X Y : Type 0} → Shape X Y → (List Symbol → Reply X) → (List Symbol → Reply Y) → List Symbol → Reply Y
+abbrev pub series_item : {X Y : Type 0} → ListForm X Y → (List Symbol → Reply X) → (List Symbol → Reply Y)
+    → List Symbol → Reply Y
 series_item S one more ts = one ts >>= λ x. series_end S more x.0 x.1
 
-abbrev pub series_by : {X Y : Type 0} → Shape X Y → (List Symbol → Reply X) → (List Symbol → Reply Y) → List Symbol → Reply Y
+abbrev pub series_by : {X Y : Type 0} → ListForm X Y → (List Symbol → Reply X) → (List Symbol → Reply Y) → List Symbol
+    → Reply Y
 series_by S one more ts = choose (past S.closes ts) (λ rest. Ok (S.nil, rest)) (series_item S one more ts)
 
-abbrev pub series : {X Y : Type 0} → Shape X Y → (List Symbol → Reply X) → List Symbol → Reply Y
+abbrev pub series : {X Y : Type 0} → ListForm X Y → (List Symbol → Reply X) → List Symbol → Reply Y
 series S one ts = steps (series_by S one) ts
 
-abbrev pub rows : {X : Type 0} → (Symbol → Bool) → Shape X (List X)
+abbrev pub rows : {X : Type 0} → (Symbol → Bool) → ListForm X (List X)
 rows closes = record { sep = is_semicolon; closes = closes; final = λ x. false; nil = []; cons = λ x xs. x ∷ xs }
 
 -- Items with a semicolon between each two, and perhaps after the last, up to the token that closes.
@@ -257,13 +261,16 @@ row closes one ts = series (rows closes) one ts
 abbrev pub chain_more : {X Y : Type 0} → (X → Y → Y) → (List Symbol → Reply Y) → X → List Symbol → Reply Y
 chain_more cons more x vs = more vs >>= λ ys. Ok (cons x ys.0, ys.1)
 
-abbrev pub chain_end : {X Y : Type 0} → (Symbol → Bool) → (X → Y) → (X → Y → Y) → (List Symbol → Reply Y) → X → List Symbol → Reply Y
+abbrev pub chain_end : {X Y : Type 0} → (Symbol → Bool) → (X → Y) → (X → Y → Y) → (List Symbol → Reply Y) → X
+    → List Symbol → Reply Y
 chain_end sep single cons more x us = choose (past sep us) (chain_more cons more x) (Ok (single x, us))
 
-abbrev pub chain_by : {X Y : Type 0} → (Symbol → Bool) → (X → Y) → (X → Y → Y) → (List Symbol → Reply X) → (List Symbol → Reply Y) → List Symbol → Reply Y
+abbrev pub chain_by : {X Y : Type 0} → (Symbol → Bool) → (X → Y) → (X → Y → Y) → (List Symbol → Reply X)
+    → (List Symbol → Reply Y) → List Symbol → Reply Y
 chain_by sep single cons one more ts = one ts >>= λ x. chain_end sep single cons more x.0 x.1
 
-abbrev pub chain : {X Y : Type 0} → (Symbol → Bool) → (X → Y) → (X → Y → Y) → (List Symbol → Reply X) → List Symbol → Reply Y
+abbrev pub chain : {X Y : Type 0} → (Symbol → Bool) → (X → Y) → (X → Y → Y) → (List Symbol → Reply X) → List Symbol
+    → Reply Y
 chain sep single cons one ts = steps (chain_by sep single cons one) ts
 
 -- ---- places, and how much deeper a tree might be
@@ -277,14 +284,15 @@ abbrev pub Fit : Type 0 → Type 0
 Fit X = X × ℕ
 
 -- items with trees, where n nodes are left for each
-abbrev pub fitting : {X Y : Type 0} → ℕ → (Symbol → Bool) → (Symbol → Bool) → (X → Bool) → (X → Y) → (X → ℕ) → Shape X (Fit (List Y))
+abbrev pub fitting : {X Y : Type 0} → ℕ → (Symbol → Bool) → (Symbol → Bool) → (X → Bool) → (X → Y) → (X → ℕ)
+    → ListForm X (Fit (List Y))
 fitting n sep closes final tree fit = record { sep = sep; closes = closes; final = final; nil = ([], n); cons = λ x ys. (tree x ∷ ys.0, min (fit x) ys.1) }
 
 -- such a list behind another
 abbrev pub with_fit : {Y : Type 0} → Fit (List Y) → Reply (Fit (List Y)) → Reply (Fit (List Y))
 with_fit front read = read >>= λ ys. Ok ((front.0 ++ ys.0.0, min front.1 ys.0.1), ys.1)
 
-abbrev pub fits : {X : Type 0} → ℕ → (Symbol → Bool) → (Symbol → Bool) → Shape (Fit X) (Fit (List X))
+abbrev pub fits : {X : Type 0} → ℕ → (Symbol → Bool) → (Symbol → Bool) → ListForm (Fit X) (Fit (List X))
 fits n sep closes = fitting n sep closes (λ x. false) (λ x. x.0) (λ x. x.1)
 
 -- What a call answers is what reading gives, unless memory ran out.
@@ -296,7 +304,11 @@ abbrev pub Gives : {X Y : Type 0} → (X → Y) → Result X Stop → Result Y F
 Gives view (Ok x) read = read ≡ Ok (view x)
 Gives view (Err s) read = Fails s read
 
--- The same of a call that takes no memory.
+-- The same of a call that also answers the tokens left over.
+abbrev pub ParsesAs : {X : Type 0} → Result (X × Bor (List Symbol)) Stop → Reply X → Type 0
+ParsesAs result read = Gives (λ x. (x.0, x.1.now)) result read
+
+-- What a call that takes no memory answers is what reading gives.
 abbrev pub Exactly : {X Y : Type 0} → (X → Y) → Result X Fault → Result Y Fault → Type 0
 Exactly view (Ok x) read = read ≡ Ok (view x)
 Exactly view (Err f) read = read ≡ Err f

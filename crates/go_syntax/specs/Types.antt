@@ -6,7 +6,10 @@ use Rattle.go_syntax.specs.declared.symbols.Ident.{Ident}
 use Rattle.go_syntax.specs.declared.tree.FieldExpr.{FieldExpr}
 use Rattle.go_syntax.specs.declared.tree.TypeExpr.{TypeExpr}
 use Rattle.go_syntax.specs.declared.tree.TypeExpr.TheVariants as y
-use Rattle.go_syntax.specs.Reading.{Reply, ◌>>=◌, unexpected, too_deep, past, is_semicolon, is_close_paren, is_open_bracket, is_close_bracket, is_open_brace, is_close_brace, is_chan, is_arrow, is_comma, is_ident, begins_type, symbol_start, from_start, choose, peek, series, Fit, fits}
+use Rattle.go_syntax.specs.Reading.{Reply, ◌>>=◌, unexpected, too_deep, past, is_semicolon, is_close_paren}
+use Rattle.go_syntax.specs.Reading.{is_open_bracket, is_close_bracket, is_open_brace, is_close_brace, is_chan, is_arrow}
+use Rattle.go_syntax.specs.Reading.{is_comma, is_ident, begins_type, symbol_start, from_start, choose, peek, series}
+use Rattle.go_syntax.specs.Reading.{Fit, fits}
 use Rattle.go_syntax.specs.Either.{either}
 use Rattle.go_syntax.specs.Names.{tag_at, names_more, names_at}
 use Rattle.go_syntax.specs.Grammar.{field}
@@ -48,11 +51,15 @@ map_inside inner at us = inner us >>= λ key. map_end inner at key.0 key.1
 abbrev pub map_by : (List Symbol → Reply (Fit TypeExpr)) → ℕ → List Symbol → Reply (Fit TypeExpr)
 map_by inner at ts = past is_open_bracket ts >>= λ us. map_inside inner at us
 
+-- the type of what a channel carries, which can be received from or not, and sent to or not
+abbrev pub chan_of : (List Symbol → Reply (Fit TypeExpr)) → Bool → Bool → ℕ → List Symbol → Reply (Fit TypeExpr)
+chan_of inner receive send at ts = with_type inner (λ ty. y.Chan receive send ty at) ts
+
 abbrev pub chan_by : (List Symbol → Reply (Fit TypeExpr)) → ℕ → List Symbol → Reply (Fit TypeExpr)
-chan_by inner at ts = choose (past is_arrow ts) (λ us. with_type inner (λ ty. y.Chan false true ty at) us) (with_type inner (λ ty. y.Chan true true ty at) ts)
+chan_by inner at ts = choose (past is_arrow ts) (λ us. chan_of inner false true at us) (chan_of inner true true at ts)
 
 abbrev pub receive_by : (List Symbol → Reply (Fit TypeExpr)) → ℕ → List Symbol → Reply (Fit TypeExpr)
-receive_by inner at ts = past is_chan ts >>= λ us. with_type inner (λ ty. y.Chan true false ty at) us
+receive_by inner at ts = past is_chan ts >>= λ us. chan_of inner true false at us
 
 abbrev pub func_by : ℕ → (List Symbol → Reply (Fit TypeExpr)) → ℕ → List Symbol → Reply (Fit TypeExpr)
 func_by n inner at ts = sig_at n inner ts >>= λ s. Ok ((y.Func s.0.0 at, s.0.1), s.1)
@@ -125,7 +132,8 @@ abbrev pub struct_by : ℕ → (List Symbol → Reply (Fit TypeExpr)) → ℕ �
 struct_by n inner at ts = past is_open_brace ts >>= λ us. struct_inside n inner at us
 
 -- one step, with what reads the types inside, where n nodes are left for them, and those a node deeper
-abbrev pub type_by : ℕ → (List Symbol → Reply (Fit TypeExpr)) → (List Symbol → Reply (Fit TypeExpr)) → List Symbol → Reply (Fit TypeExpr)
+abbrev pub type_by : ℕ → (List Symbol → Reply (Fit TypeExpr)) → (List Symbol → Reply (Fit TypeExpr)) → List Symbol
+    → Reply (Fit TypeExpr)
 type_by n inner lower (t.Ident i ∷ ts) = name_by n inner i ts
 type_by n inner lower (t.OpenParen at ∷ ts) = paren_by inner at ts
 type_by n inner lower (t.Star at ∷ ts) = with_type inner (λ ty. y.Pointer ty at) ts

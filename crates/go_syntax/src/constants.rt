@@ -1,12 +1,13 @@
 ghost use Rattle.std.specs.Prelude.{◌≡◌, None};
-ghost use Rattle.go_syntax.specs.Reading.{Gives, row, is_close_paren};
-ghost use Rattle.go_syntax.specs.Constants.{source_of, constants, exprs_at, const_values, const_typed, const_rest, const_first, const_spec_at};
+ghost use Rattle.go_syntax.specs.Reading.{row, is_close_paren, ParsesAs};
+ghost use Rattle.go_syntax.specs.Constants.{source_of, constants, exprs_at, const_values, const_typed, const_rest};
+ghost use Rattle.go_syntax.specs.Constants.{const_first, const_spec_at};
 ghost use Rattle.go_syntax.specs.Files.{counting, const_group_at};
 
 use crate::expressions::outer_expression;
 use crate::faults::Stop;
 use crate::names::more_names;
-use crate::reading::{Kind, ident, onward, past, starts};
+use crate::reading::{Kind, Read, ident, onward, past, starts};
 use crate::symbols::{Ident, Tokens};
 use crate::tree::{ConstSpec, Expr, Top, TypeExpr};
 use crate::types::type_expr;
@@ -14,7 +15,7 @@ use sqlite_items::Items;
 use std::alloc::Global;
 
 /// Constants as they are written. With no values they repeat those before them.
-#[derive(Debug, Drop)]
+#[derive(Drop)]
 pub(crate) struct Written {
     pub names: Items<Ident>,
     pub ty: Option<TypeExpr>,
@@ -22,12 +23,8 @@ pub(crate) struct Written {
 }
 
 /// Expressions with a comma between each two.
-fn expression_list(
-    alloc: Global,
-    tokens: Tokens<'_>,
-    left: usize,
-) -> Result<(Items<Expr>, Tokens<'_>), Stop>
-    ensures { Gives (λ x. (x.0, x.1.now)) result (exprs_at left tokens.now) }
+fn expression_list(alloc: Global, tokens: Tokens<'_>, left: usize) -> Read<'_, Items<Expr>>
+    ensures { ParsesAs result (exprs_at left tokens.now) }
 {
     let mut found = Items::new(alloc);
     let mut rest = tokens;
@@ -48,21 +45,16 @@ fn values(
     ty: Option<TypeExpr>,
     tokens: Tokens<'_>,
     left: usize,
-) -> Result<(Written, Tokens<'_>), Stop>
-    ensures { Gives (λ x. (x.0, x.1.now)) result (const_values left names ty tokens.now) }
+) -> Read<'_, Written>
+    ensures { ParsesAs result (const_values left names ty tokens.now) }
 {
     let (values, rest) = expression_list(alloc, tokens, left)?;
     Ok((Written { names, ty, values }, rest))
 }
 
 /// The type and values of constants.
-fn typed(
-    alloc: Global,
-    names: Items<Ident>,
-    tokens: Tokens<'_>,
-    left: usize,
-) -> Result<(Written, Tokens<'_>), Stop>
-    ensures { Gives (λ x. (x.0, x.1.now)) result (const_typed left names tokens.now) }
+fn typed(alloc: Global, names: Items<Ident>, tokens: Tokens<'_>, left: usize) -> Read<'_, Written>
+    ensures { ParsesAs result (const_typed left names tokens.now) }
 {
     let ((ty, _), rest) = type_expr(alloc, tokens, left)?;
     let rest = past(Kind::Assign, rest)?;
@@ -75,8 +67,8 @@ fn after_names(
     names: Items<Ident>,
     tokens: Tokens<'_>,
     left: usize,
-) -> Result<(Written, Tokens<'_>), Stop>
-    ensures { Gives (λ x. (x.0, x.1.now)) result (const_rest left names tokens.now) }
+) -> Read<'_, Written>
+    ensures { ParsesAs result (const_rest left names tokens.now) }
 {
     if let Ok(rest) = past(Kind::Assign, tokens) {
         return values(alloc, names, None, rest, left);
@@ -93,13 +85,8 @@ fn after_names(
 }
 
 /// Constants, after their first name.
-fn first_const(
-    alloc: Global,
-    first: Ident,
-    tokens: Tokens<'_>,
-    left: usize,
-) -> Result<(Written, Tokens<'_>), Stop>
-    ensures { Gives (λ x. (x.0, x.1.now)) result (const_first left first tokens.now) }
+fn first_const(alloc: Global, first: Ident, tokens: Tokens<'_>, left: usize) -> Read<'_, Written>
+    ensures { ParsesAs result (const_first left first tokens.now) }
 {
     if let Ok(rest) = past(Kind::Comma, tokens) {
         let (names, rest) = more_names(alloc, first, rest)?;
@@ -111,8 +98,8 @@ fn first_const(
 }
 
 /// A specification of constants.
-fn const_spec(alloc: Global, tokens: Tokens<'_>, left: usize) -> Result<(Written, Tokens<'_>), Stop>
-    ensures { Gives (λ x. (x.0, x.1.now)) result (const_spec_at left tokens.now) }
+fn const_spec(alloc: Global, tokens: Tokens<'_>, left: usize) -> Read<'_, Written>
+    ensures { ParsesAs result (const_spec_at left tokens.now) }
 {
     let (first, rest) = ident(tokens)?;
     first_const(alloc, first, rest, left)
@@ -145,12 +132,8 @@ fn constants(written: Written, iota: usize, source: usize) -> Top
 }
 
 /// The constants of a group, after its parenthesis.
-fn const_block(
-    alloc: Global,
-    tokens: Tokens<'_>,
-    left: usize,
-) -> Result<(Items<Top>, Tokens<'_>), Stop>
-    ensures { Gives (λ x. (x.0, x.1.now)) result (counting 0 0 (row is_close_paren (const_spec_at left) tokens.now)) }
+fn const_block(alloc: Global, tokens: Tokens<'_>, left: usize) -> Read<'_, Items<Top>>
+    ensures { ParsesAs result (counting 0 0 (row is_close_paren (const_spec_at left) tokens.now)) }
 {
     let mut found = Items::new(alloc);
     let mut last = 0;
@@ -172,12 +155,8 @@ fn const_block(
 }
 
 /// One specification of constants, or a group of them.
-pub(crate) fn const_group(
-    alloc: Global,
-    tokens: Tokens<'_>,
-    left: usize,
-) -> Result<(Items<Top>, Tokens<'_>), Stop>
-    ensures { Gives (λ x. (x.0, x.1.now)) result (const_group_at left tokens.now) }
+pub(crate) fn const_group(alloc: Global, tokens: Tokens<'_>, left: usize) -> Read<'_, Items<Top>>
+    ensures { ParsesAs result (const_group_at left tokens.now) }
 {
     if let Ok(rest) = past(Kind::OpenParen, tokens) {
         return const_block(alloc, rest, left);

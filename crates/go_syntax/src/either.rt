@@ -1,9 +1,10 @@
 ghost use Rattle.std.specs.Prelude.{◌≡◌};
-ghost use Rattle.go_syntax.specs.Reading.{Gives, Reply};
+ghost use Rattle.go_syntax.specs.Reading.{Reply, ParsesAs};
 ghost use Rattle.go_syntax.specs.Either.{later, instead_of, after_fault};
 ghost use Rattle.go_syntax.specs.declared.faults.Fault.TheVariants.{Deep};
 
 use crate::faults::{Fault, Stop};
+use crate::reading::Read;
 use crate::symbols::Tokens;
 
 /// The fault that counts, where the first reading has one with this many tokens left, and the second has another.
@@ -18,12 +19,8 @@ fn later(first: Fault, left: usize, second: Fault) -> Fault
 }
 
 /// The second reading, unless the first, which has this fault with so many tokens left, goes further.
-fn instead<T: Drop>(
-    first: Fault,
-    left: usize,
-    second: Result<(T, Tokens<'_>), Stop>,
-) -> Result<(T, Tokens<'_>), Stop>
-    ensures { (read : Reply T) → Gives (λ x. (x.0, x.1.now)) second.entry read → Gives (λ x. (x.0, x.1.now)) result (instead_of first left read) }
+fn instead<T: Drop>(first: Fault, left: usize, second: Read<'_, T>) -> Read<'_, T>
+    ensures { (read : Reply T) → ParsesAs second.entry read → ParsesAs result (instead_of first left read) }
 {
     match second {
         Ok(read) => {
@@ -40,12 +37,8 @@ fn instead<T: Drop>(
 
 /// What counts, where a path is too long in the first reading. With the same token in the second too, the
 /// outermost type begins where that one does.
-fn deep_in_both<T: Drop>(
-    left: usize,
-    began: u32,
-    second: Result<(T, Tokens<'_>), Stop>,
-) -> Result<(T, Tokens<'_>), Stop>
-    ensures { (read : Reply T) → Gives (λ x. (x.0, x.1.now)) second.entry read → Gives (λ x. (x.0, x.1.now)) result (after_fault (Deep left began) read) }
+fn deep_in_both<T: Drop>(left: usize, began: u32, second: Read<'_, T>) -> Read<'_, T>
+    ensures { (read : Reply T) → ParsesAs second.entry read → ParsesAs result (after_fault (Deep left began) read) }
 {
     match second {
         Err(Stop::At(Fault::Deep(there, at))) if there == left => {
@@ -57,11 +50,8 @@ fn deep_in_both<T: Drop>(
 }
 
 /// What counts, where the first of two readings has this fault, and the second answers so.
-pub(crate) fn after_fault<T: Drop>(
-    first: Fault,
-    second: Result<(T, Tokens<'_>), Stop>,
-) -> Result<(T, Tokens<'_>), Stop>
-    ensures { (read : Reply T) → Gives (λ x. (x.0, x.1.now)) second.entry read → Gives (λ x. (x.0, x.1.now)) result (after_fault first read) }
+pub(crate) fn after_fault<T: Drop>(first: Fault, second: Read<'_, T>) -> Read<'_, T>
+    ensures { (read : Reply T) → ParsesAs second.entry read → ParsesAs result (after_fault first read) }
 {
     match first {
         Fault::Deep(left, began) => deep_in_both(left, began, second),

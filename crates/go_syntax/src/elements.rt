@@ -1,12 +1,13 @@
 ghost use Rattle.std.specs.Prelude.{◌≡◌, Err};
-ghost use Rattle.go_syntax.specs.Reading.{Gives};
-ghost use Rattle.go_syntax.specs.Elements.{term_at, terms_at, more_terms, after_type, tilde_by, tilde_at, union_at, no_elem, embedded_elem, named_elem, elem_at, elems_at, interface_by};
+ghost use Rattle.go_syntax.specs.Reading.{ParsesAs};
+ghost use Rattle.go_syntax.specs.Elements.{term_at, terms_at, more_terms, after_type, tilde_by, tilde_at, union_at};
+ghost use Rattle.go_syntax.specs.Elements.{no_elem, embedded_elem, named_elem, elem_at, elems_at, interface_by};
 ghost use Rattle.go_syntax.specs.Types.{type_at, lower_at};
 
 use crate::faults::{Fault, Stop};
 use crate::instances::named_type;
 use crate::params::signature;
-use crate::reading::{Kind, ident, onward, past, single, start, starts, too_deep};
+use crate::reading::{Fit, Kind, Read, ident, onward, past, single, start, starts, too_deep};
 use crate::symbols::{Ident, Tokens};
 use crate::tree::{ElemExpr, TermExpr, TypeExpr};
 use crate::types::{lower_type, type_expr};
@@ -15,12 +16,8 @@ use std::alloc::Global;
 
 /// A term of a union.
 #[cycle(types)]
-fn one_term(
-    alloc: Global,
-    tokens: Tokens<'_>,
-    left: usize,
-) -> Result<((TermExpr, usize), Tokens<'_>), Stop>
-    ensures { Gives (λ x. (x.0, x.1.now)) result (term_at (lower_at left) tokens.now) }
+fn one_term(alloc: Global, tokens: Tokens<'_>, left: usize) -> Read<'_, Fit<TermExpr>>
+    ensures { ParsesAs result (term_at (lower_at left) tokens.now) }
 {
     let at = start(tokens);
     if let Ok(rest) = past(Kind::Tilde, tokens) {
@@ -37,12 +34,12 @@ fn one_term(
 #[cycle(types)]
 fn more_terms(
     alloc: Global,
-    first: (TermExpr, usize),
+    first: Fit<TermExpr>,
     at: u32,
     tokens: Tokens<'_>,
     left: usize,
-) -> Result<((TypeExpr, usize), Tokens<'_>), Stop>
-    ensures { Gives (λ x. (x.0, x.1.now)) result (more_terms (lower_at left) first at tokens.now) }
+) -> Read<'_, Fit<TypeExpr>>
+    ensures { ParsesAs result (more_terms (lower_at left) first at tokens.now) }
 {
     let (first, mut fit) = first;
     let mut terms = single(alloc, first)?;
@@ -62,12 +59,12 @@ fn more_terms(
 #[cycle(types)]
 fn after_type(
     alloc: Global,
-    first: (TypeExpr, usize),
+    first: Fit<TypeExpr>,
     at: u32,
     tokens: Tokens<'_>,
     left: usize,
-) -> Result<((TypeExpr, usize), Tokens<'_>), Stop>
-    ensures { Gives (λ x. (x.0, x.1.now)) result (after_type (lower_at left) first.0 first.1 at tokens.now) }
+) -> Read<'_, Fit<TypeExpr>>
+    ensures { ParsesAs result (after_type (lower_at left) first.0 first.1 at tokens.now) }
 {
     let Ok(rest) = past(Kind::Bar, tokens) else {
         return Ok((first, tokens));
@@ -83,13 +80,8 @@ fn after_type(
 
 /// A union, after its first token, which is a tilde.
 #[cycle(types)]
-fn after_tilde(
-    alloc: Global,
-    at: u32,
-    tokens: Tokens<'_>,
-    left: usize,
-) -> Result<((TypeExpr, usize), Tokens<'_>), Stop>
-    ensures { Gives (λ x. (x.0, x.1.now)) result (tilde_by (lower_at left) at tokens.now) }
+fn after_tilde(alloc: Global, at: u32, tokens: Tokens<'_>, left: usize) -> Read<'_, Fit<TypeExpr>>
+    ensures { ParsesAs result (tilde_by (lower_at left) at tokens.now) }
 {
     let ((ty, fit), rest) = lower_type(alloc, tokens, left)?;
     let tilde = true;
@@ -103,12 +95,8 @@ fn after_tilde(
 
 /// A union that begins with a tilde.
 #[cycle(types)]
-fn tilde_type(
-    alloc: Global,
-    tokens: Tokens<'_>,
-    left: usize,
-) -> Result<((TypeExpr, usize), Tokens<'_>), Stop>
-    ensures { Gives (λ x. (x.0, x.1.now)) result (tilde_at left (lower_at left) tokens.now) }
+fn tilde_type(alloc: Global, tokens: Tokens<'_>, left: usize) -> Read<'_, Fit<TypeExpr>>
+    ensures { ParsesAs result (tilde_at left (lower_at left) tokens.now) }
 {
     if left == 0 {
         return Err(Stop::At(too_deep(tokens)));
@@ -120,12 +108,8 @@ fn tilde_type(
 
 /// A union, or the type of its only term.
 #[cycle(types)]
-pub(crate) fn union_type(
-    alloc: Global,
-    tokens: Tokens<'_>,
-    left: usize,
-) -> Result<((TypeExpr, usize), Tokens<'_>), Stop>
-    ensures { Gives (λ x. (x.0, x.1.now)) result (union_at left (type_at left) (lower_at left) tokens.now) }
+pub(crate) fn union_type(alloc: Global, tokens: Tokens<'_>, left: usize) -> Read<'_, Fit<TypeExpr>>
+    ensures { ParsesAs result (union_at left (type_at left) (lower_at left) tokens.now) }
 {
     if starts(Kind::Tilde, tokens) {
         return tilde_type(alloc, tokens, left);
@@ -142,8 +126,8 @@ fn embedded_elem(
     name: Ident,
     tokens: Tokens<'_>,
     left: usize,
-) -> Result<((ElemExpr, usize), Tokens<'_>), Stop>
-    ensures { Gives (λ x. (x.0, x.1.now)) result (embedded_elem left (lower_at left) name tokens.now) }
+) -> Read<'_, Fit<ElemExpr>>
+    ensures { ParsesAs result (embedded_elem left (lower_at left) name tokens.now) }
 {
     if left == 0 {
         return Err(Stop::At(no_elem(tokens)));
@@ -172,8 +156,8 @@ fn named_elem(
     name: Ident,
     tokens: Tokens<'_>,
     left: usize,
-) -> Result<((ElemExpr, usize), Tokens<'_>), Stop>
-    ensures { Gives (λ x. (x.0, x.1.now)) result (named_elem left (type_at left) (lower_at left) name tokens.now) }
+) -> Read<'_, Fit<ElemExpr>>
+    ensures { ParsesAs result (named_elem left (type_at left) (lower_at left) name tokens.now) }
 {
     if starts(Kind::OpenParen, tokens) {
         let ((sig, fit), rest) = signature(alloc, tokens, left)?;
@@ -185,12 +169,8 @@ fn named_elem(
 
 /// An element of an interface.
 #[cycle(types)]
-fn one_elem(
-    alloc: Global,
-    tokens: Tokens<'_>,
-    left: usize,
-) -> Result<((ElemExpr, usize), Tokens<'_>), Stop>
-    ensures { Gives (λ x. (x.0, x.1.now)) result (elem_at left (type_at left) (lower_at left) tokens.now) }
+fn one_elem(alloc: Global, tokens: Tokens<'_>, left: usize) -> Read<'_, Fit<ElemExpr>>
+    ensures { ParsesAs result (elem_at left (type_at left) (lower_at left) tokens.now) }
 {
     if let Ok((name, rest)) = ident(tokens) {
         return named_elem(alloc, name, rest, left);
@@ -202,12 +182,8 @@ fn one_elem(
 
 /// The elements of an interface, after its brace.
 #[cycle(types)]
-fn elems(
-    alloc: Global,
-    tokens: Tokens<'_>,
-    left: usize,
-) -> Result<((Items<ElemExpr>, usize), Tokens<'_>), Stop>
-    ensures { Gives (λ x. (x.0, x.1.now)) result (elems_at left (type_at left) (lower_at left) tokens.now) }
+fn elems(alloc: Global, tokens: Tokens<'_>, left: usize) -> Read<'_, Fit<Items<ElemExpr>>>
+    ensures { ParsesAs result (elems_at left (type_at left) (lower_at left) tokens.now) }
 {
     let mut found = Items::new(alloc);
     let mut fit = left;
@@ -234,8 +210,8 @@ pub(crate) fn interface_type(
     at: u32,
     tokens: Tokens<'_>,
     left: usize,
-) -> Result<((TypeExpr, usize), Tokens<'_>), Stop>
-    ensures { Gives (λ x. (x.0, x.1.now)) result (interface_by left (type_at left) (lower_at left) at tokens.now) }
+) -> Read<'_, Fit<TypeExpr>>
+    ensures { ParsesAs result (interface_by left (type_at left) (lower_at left) at tokens.now) }
 {
     let rest = past(Kind::OpenBrace, tokens)?;
     let ((elems, fit), rest) = elems(alloc, rest, left)?;

@@ -1,11 +1,13 @@
 ghost use Rattle.std.specs.Prelude.{◌≡◌, ◌<◌, ◌-◌, Err, IfOk};
-ghost use Rattle.go_syntax.specs.Reading.{Exactly, Gives};
-ghost use Rattle.go_syntax.specs.Expressions.{level, is_unary, between_of, literal, constant, conversion, enclosed, unary, binary};
-ghost use Rattle.go_syntax.specs.Operands.{uncalled, converted, convert_by, named_by, enclosed_by, signed_by, operand_by, operator_at, climb, level_by, no_expr, expr_of, outer_expr};
+ghost use Rattle.go_syntax.specs.Reading.{Exactly, ParsesAs};
+ghost use Rattle.go_syntax.specs.Expressions.{level, is_unary, between_of, literal, constant, conversion, enclosed};
+ghost use Rattle.go_syntax.specs.Expressions.{unary, binary};
+ghost use Rattle.go_syntax.specs.Operands.{uncalled, converted, convert_by, named_by, enclosed_by, signed_by};
+ghost use Rattle.go_syntax.specs.Operands.{operand_by, operator_at, climb, level_by, no_expr, expr_of, outer_expr};
 
 use crate::faults::{Fault, Stop};
 use crate::names::dotted;
-use crate::reading::{Kind, onward, past, start, starts, told_at, too_deep};
+use crate::reading::{Fit, Kind, Read, onward, past, start, starts, told_at, too_deep};
 use crate::symbols::{Operator, Symbol, Tokens};
 use crate::tree::{Expr, NameExpr};
 use go_lexer::Token;
@@ -13,7 +15,7 @@ use sqlite_items::Boxed;
 use std::alloc::{AllocError, Global};
 
 /// An expression, with the place where it begins.
-#[derive(Debug, Drop)]
+#[derive(Drop)]
 pub(crate) struct Operand {
     pub expr: Expr,
     pub at: u32,
@@ -165,10 +167,7 @@ fn no_expr(tokens: Tokens<'_>) -> Fault
 }
 
 /// An operand behind which no parenthesis may stand.
-fn uncalled(
-    operand: (Operand, usize),
-    tokens: Tokens<'_>,
-) -> Result<((Operand, usize), Tokens<'_>), Fault>
+fn uncalled(operand: Fit<Operand>, tokens: Tokens<'_>) -> Result<(Fit<Operand>, Tokens<'_>), Fault>
     ensures { Exactly (λ x. (x.0, x.1.now)) result (uncalled operand tokens.now) }
 {
     match tokens {
@@ -185,10 +184,10 @@ fn converted(
     alloc: Global,
     to: NameExpr,
     at: u32,
-    inside: (Operand, usize),
+    inside: Fit<Operand>,
     tokens: Tokens<'_>,
-) -> Result<((Operand, usize), Tokens<'_>), Stop>
-    ensures { Gives (λ x. (x.0, x.1.now)) result (converted to at inside tokens.now) }
+) -> Read<'_, Fit<Operand>>
+    ensures { ParsesAs result (converted to at inside tokens.now) }
 {
     if starts(Kind::GoesOn, tokens) {
         return Err(Stop::At(Fault::Call(tokens.len(), at)));
@@ -207,8 +206,8 @@ fn convert(
     at: u32,
     tokens: Tokens<'_>,
     left: usize,
-) -> Result<((Operand, usize), Tokens<'_>), Stop>
-    ensures { Gives (λ x. (x.0, x.1.now)) result (convert_by (expr_of left 5) to at tokens.now) }
+) -> Read<'_, Fit<Operand>>
+    ensures { ParsesAs result (convert_by (expr_of left 5) to at tokens.now) }
 {
     if starts(Kind::CloseParen, tokens) {
         return Err(Stop::At(Fault::Call(tokens.len(), at)));
@@ -219,13 +218,8 @@ fn convert(
 
 /// A constant, or a conversion, after its name.
 #[cycle(expressions)]
-fn named(
-    alloc: Global,
-    name: NameExpr,
-    tokens: Tokens<'_>,
-    left: usize,
-) -> Result<((Operand, usize), Tokens<'_>), Stop>
-    ensures { Gives (λ x. (x.0, x.1.now)) result (named_by left (expr_of left 5) name tokens.now) }
+fn named(alloc: Global, name: NameExpr, tokens: Tokens<'_>, left: usize) -> Read<'_, Fit<Operand>>
+    ensures { ParsesAs result (named_by left (expr_of left 5) name tokens.now) }
 {
     match tokens {
         [first, rest @ ..] => match *first {
@@ -238,13 +232,8 @@ fn named(
 
 /// An expression in parentheses, after the first of them.
 #[cycle(expressions)]
-fn in_parens(
-    alloc: Global,
-    at: u32,
-    tokens: Tokens<'_>,
-    left: usize,
-) -> Result<((Operand, usize), Tokens<'_>), Stop>
-    ensures { Gives (λ x. (x.0, x.1.now)) result (enclosed_by (expr_of left 5) at tokens.now) }
+fn in_parens(alloc: Global, at: u32, tokens: Tokens<'_>, left: usize) -> Read<'_, Fit<Operand>>
+    ensures { ParsesAs result (enclosed_by (expr_of left 5) at tokens.now) }
 {
     let ((inside, spare), rest) = expression(alloc, tokens, 5, left)?;
     let rest = past(Kind::CloseParen, rest)?;
@@ -260,8 +249,8 @@ fn signed(
     at: u32,
     tokens: Tokens<'_>,
     left: usize,
-) -> Result<((Operand, usize), Tokens<'_>), Stop>
-    ensures { Gives (λ x. (x.0, x.1.now)) result (signed_by (is_unary op) (expr_of left 0) op at tokens.now) }
+) -> Read<'_, Fit<Operand>>
+    ensures { ParsesAs result (signed_by (is_unary op) (expr_of left 0) op at tokens.now) }
 {
     if !is_unary(op) {
         return Err(Stop::At(Fault::Unexpected(tokens.len() + 1)));
@@ -273,12 +262,8 @@ fn signed(
 
 /// A unary expression, where this many nodes are left for what stands inside.
 #[cycle(expressions)]
-fn unary_expression(
-    alloc: Global,
-    tokens: Tokens<'_>,
-    left: usize,
-) -> Result<((Operand, usize), Tokens<'_>), Stop>
-    ensures { Gives (λ x. (x.0, x.1.now)) result (operand_by left (expr_of left 0) (expr_of left 5) tokens.now) }
+fn unary_expression(alloc: Global, tokens: Tokens<'_>, left: usize) -> Read<'_, Fit<Operand>>
+    ensures { ParsesAs result (operand_by left (expr_of left 0) (expr_of left 5) tokens.now) }
 {
     let [first, rest @ ..] = tokens else {
         return Err(Stop::At(Fault::Unexpected(0)));
@@ -301,13 +286,13 @@ fn unary_expression(
 #[cycle(expressions)]
 fn operators(
     alloc: Global,
-    first: (Operand, usize),
+    first: Fit<Operand>,
     tokens: Tokens<'_>,
     level: usize,
     left: usize,
-) -> Result<((Operand, usize), Tokens<'_>), Stop>
+) -> Read<'_, Fit<Operand>>
     requires { 0 < level }
-    ensures { Gives (λ x. (x.0, x.1.now)) result (climb level (expr_of left (level - 1)) first tokens.now) }
+    ensures { ParsesAs result (climb level (expr_of left (level - 1)) first tokens.now) }
 {
     let (mut found, mut spare) = first;
     let mut rest = tokens;
@@ -333,8 +318,8 @@ fn up_to_level(
     tokens: Tokens<'_>,
     level: usize,
     left: usize,
-) -> Result<((Operand, usize), Tokens<'_>), Stop>
-    ensures { Gives (λ x. (x.0, x.1.now)) result (level_by left (expr_of left) level tokens.now) }
+) -> Read<'_, Fit<Operand>>
+    ensures { ParsesAs result (level_by left (expr_of left) level tokens.now) }
 {
     let (mut found, mut rest) = unary_expression(alloc, tokens, left)?;
     let mut reached = 0;
@@ -355,8 +340,8 @@ pub(crate) fn expression(
     tokens: Tokens<'_>,
     level: usize,
     left: usize,
-) -> Result<((Operand, usize), Tokens<'_>), Stop>
-    ensures { Gives (λ x. (x.0, x.1.now)) result (expr_of left level tokens.now) }
+) -> Read<'_, Fit<Operand>>
+    ensures { ParsesAs result (expr_of left level tokens.now) }
 {
     if left == 0 {
         return Err(Stop::At(no_expr(tokens)));
@@ -369,8 +354,8 @@ pub(crate) fn outer_expression(
     alloc: Global,
     tokens: Tokens<'_>,
     left: usize,
-) -> Result<((Operand, usize), Tokens<'_>), Stop>
-    ensures { Gives (λ x. (x.0, x.1.now)) result (outer_expr left tokens.now) }
+) -> Read<'_, Fit<Operand>>
+    ensures { ParsesAs result (outer_expr left tokens.now) }
 {
     told_at(start(tokens), expression(alloc, tokens, 5, left))
 }

@@ -1,5 +1,5 @@
 /// Where reading stops, told by how many tokens are left.
-#[derive(Clone, Copy, Debug, PartialEq, Eq)]
+#[derive(Clone, Copy)]
 pub enum Fault {
     /// With the next token the tokens begin no file.
     Unexpected(usize),
@@ -13,7 +13,7 @@ pub enum Fault {
 }
 
 /// Why a reader gives no tree.
-#[derive(Clone, Copy, Debug, PartialEq, Eq)]
+#[derive(Clone, Copy)]
 pub enum Stop {
     OutOfMemory,
     At(Fault),

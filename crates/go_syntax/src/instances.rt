@@ -1,11 +1,11 @@
 ghost use Rattle.std.specs.Prelude.{◌≡◌, ◌≤◌};
-ghost use Rattle.go_syntax.specs.Reading.{told_at, Gives, with_fit, series};
+ghost use Rattle.go_syntax.specs.Reading.{told_at, with_fit, series, ParsesAs};
 ghost use Rattle.go_syntax.specs.Elements.{type_list, types_at, args_by, name_by};
 ghost use Rattle.go_syntax.specs.Types.{type_at};
 
 use crate::faults::Stop;
 use crate::names::dotted;
-use crate::reading::{Kind, onward, past, single, told_at};
+use crate::reading::{Fit, Kind, Read, onward, past, single, told_at};
 use crate::symbols::{Ident, Tokens};
 use crate::tree::{NameExpr, TypeExpr};
 use crate::types::type_expr;
@@ -16,12 +16,12 @@ use std::alloc::Global;
 #[cycle(types)]
 fn arg_row(
     alloc: Global,
-    found: (Items<TypeExpr>, usize),
+    found: Fit<Items<TypeExpr>>,
     tokens: Tokens<'_>,
     left: usize,
-) -> Result<((Items<TypeExpr>, usize), Tokens<'_>), Stop>
+) -> Read<'_, Fit<Items<TypeExpr>>>
     requires { found.1 ≤ left }
-    ensures { Gives (λ x. (x.0, x.1.now)) result (with_fit found (series (type_list left) (type_at left) tokens.now)) }
+    ensures { ParsesAs result (with_fit found (series (type_list left) (type_at left) tokens.now)) }
 {
     let (mut args, mut fit) = found;
     let mut rest = tokens;
@@ -42,12 +42,8 @@ fn arg_row(
 
 /// Type arguments up to the bracket that closes, one at least.
 #[cycle(types)]
-fn type_args(
-    alloc: Global,
-    tokens: Tokens<'_>,
-    left: usize,
-) -> Result<((Items<TypeExpr>, usize), Tokens<'_>), Stop>
-    ensures { Gives (λ x. (x.0, x.1.now)) result (types_at left (type_at left) tokens.now) }
+fn type_args(alloc: Global, tokens: Tokens<'_>, left: usize) -> Read<'_, Fit<Items<TypeExpr>>>
+    ensures { ParsesAs result (types_at left (type_at left) tokens.now) }
 {
     let ((first, fit), rest) = type_expr(alloc, tokens, left)?;
     let fit = fit.min(left);
@@ -66,8 +62,8 @@ fn with_args(
     name: NameExpr,
     tokens: Tokens<'_>,
     left: usize,
-) -> Result<((TypeExpr, usize), Tokens<'_>), Stop>
-    ensures { Gives (λ x. (x.0, x.1.now)) result (args_by left (type_at left) name tokens.now) }
+) -> Read<'_, Fit<TypeExpr>>
+    ensures { ParsesAs result (args_by left (type_at left) name tokens.now) }
 {
     let at = name.at;
     if let Ok(rest) = past(Kind::OpenBracket, tokens) {
@@ -85,8 +81,8 @@ pub(crate) fn named_type(
     first: Ident,
     tokens: Tokens<'_>,
     left: usize,
-) -> Result<((TypeExpr, usize), Tokens<'_>), Stop>
-    ensures { Gives (λ x. (x.0, x.1.now)) result (name_by left (type_at left) first tokens.now) }
+) -> Read<'_, Fit<TypeExpr>>
+    ensures { ParsesAs result (name_by left (type_at left) first tokens.now) }
 {
     let (name, rest) = dotted(first, tokens)?;
     with_args(alloc, name, rest, left)
@@ -99,8 +95,8 @@ pub(crate) fn begun_type(
     first: Ident,
     tokens: Tokens<'_>,
     left: usize,
-) -> Result<((TypeExpr, usize), Tokens<'_>), Stop>
-    ensures { Gives (λ x. (x.0, x.1.now)) result (told_at first.start (name_by left (type_at left) first tokens.now)) }
+) -> Read<'_, Fit<TypeExpr>>
+    ensures { ParsesAs result (told_at first.start (name_by left (type_at left) first tokens.now)) }
 {
     told_at(first.start, named_type(alloc, first, tokens, left))
 }

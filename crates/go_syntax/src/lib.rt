@@ -23,7 +23,7 @@ mod tree;
 mod types;
 
 pub use outcomes::{no_fault_of_a_file, one_place, one_tree};
-pub use parsing::{SyntaxFault, What, parse};
+pub use parsing::{LeftOutKind, MAX_DEPTH, SyntaxFault, parse};
 pub use symbols::{Ident, Operator};
 pub use tree::{
     ConstSpec, ElemExpr, Expr, FieldExpr, FuncDecl, Import, NameExpr, ParamExpr, Receiver, SigExpr,

@@ -1,9 +1,9 @@
 ghost use Rattle.std.specs.Prelude.{◌≡◌, Ok, IfOk};
-ghost use Rattle.go_syntax.specs.Reading.{Exactly, Gives};
+ghost use Rattle.go_syntax.specs.Reading.{Exactly, ParsesAs};
 ghost use Rattle.go_syntax.specs.Names.{dotted, tag_at, names_at, names_more};
 
 use crate::faults::{Fault, Stop};
-use crate::reading::{Kind, ident, onward, past};
+use crate::reading::{Kind, Read, ident, onward, past};
 use crate::symbols::{Ident, Symbol, Tokens};
 use crate::tree::NameExpr;
 use go_values::Bytes;
@@ -46,12 +46,8 @@ pub(crate) fn tag(alloc: Global, tokens: Tokens<'_>) -> Result<(Bytes, Tokens<'_
 }
 
 /// The names of a list, after its first name and the comma behind it.
-pub(crate) fn more_names(
-    alloc: Global,
-    first: Ident,
-    tokens: Tokens<'_>,
-) -> Result<(Items<Ident>, Tokens<'_>), Stop>
-    ensures { Gives (λ x. (x.0, x.1.now)) result (names_more names_at first tokens.now) }
+pub(crate) fn more_names(alloc: Global, first: Ident, tokens: Tokens<'_>) -> Read<'_, Items<Ident>>
+    ensures { ParsesAs result (names_more names_at first tokens.now) }
 {
     let mut names = Items::new(alloc);
     names.push(first)?;

@@ -1,13 +1,16 @@
 ghost use Rattle.std.specs.Prelude.{◌≡◌, ◌≤◌, [], false, map, Err, IfOk};
-ghost use Rattle.go_syntax.specs.Reading.{Gives, with_fit};
-ghost use Rattle.go_syntax.specs.Params.{bare, item, param_type, type_param, unnamed_param, lone_param, first_param, param_at, params_row, params_end, no_bare, after_bare, types_by, names_by, named_by, array_or_instance, after_ident, params_from, results_by, sig_by, sig_at};
+ghost use Rattle.go_syntax.specs.Reading.{with_fit, ParsesAs};
+ghost use Rattle.go_syntax.specs.Params.{bare, item, param_type, type_param, unnamed_param, lone_param, first_param};
+ghost use Rattle.go_syntax.specs.Params.{param_at, params_row, params_end, no_bare, after_bare, types_by, names_by};
+ghost use Rattle.go_syntax.specs.Params.{named_by, array_or_instance, after_ident, params_from, results_by, sig_by};
+ghost use Rattle.go_syntax.specs.Params.{sig_at};
 ghost use Rattle.go_syntax.specs.Types.{type_at};
 
 use crate::either::after_fault;
 use crate::faults::{Fault, Stop};
 use crate::instances::begun_type;
 use crate::names::more_names;
-use crate::reading::{Kind, ident, onward, past, single, start, starts, too_deep};
+use crate::reading::{Fit, Kind, Read, ident, onward, past, single, start, starts, too_deep};
 use crate::symbols::{Ident, Symbol, Tokens};
 use crate::tree::{NameExpr, ParamExpr, SigExpr, TypeExpr};
 use crate::types::type_expr;
@@ -15,7 +18,7 @@ use sqlite_items::Items;
 use std::alloc::{AllocError, Global};
 
 /// A parameter, how many more nodes its longest path might have, and whether it has to be the last.
-#[derive(Debug, Drop)]
+#[derive(Drop)]
 pub(crate) struct Param {
     pub(crate) expr: ParamExpr,
     pub(crate) fit: usize,
@@ -100,8 +103,8 @@ fn param_type(
     at: u32,
     tokens: Tokens<'_>,
     left: usize,
-) -> Result<(Param, Tokens<'_>), Stop>
-    ensures { Gives (λ x. (x.0, x.1.now)) result (param_type (type_at left) names variadic at tokens.now) }
+) -> Read<'_, Param>
+    ensures { ParsesAs result (param_type (type_at left) names variadic at tokens.now) }
 {
     let ((ty, fit), rest) = type_expr(alloc, tokens, left)?;
     let expr = ParamExpr {
@@ -116,8 +119,8 @@ fn param_type(
 
 /// A parameter that is a type.
 #[cycle(types)]
-fn type_param(alloc: Global, tokens: Tokens<'_>, left: usize) -> Result<(Param, Tokens<'_>), Stop>
-    ensures { Gives (λ x. (x.0, x.1.now)) result (type_param (type_at left) tokens.now) }
+fn type_param(alloc: Global, tokens: Tokens<'_>, left: usize) -> Read<'_, Param>
+    ensures { ParsesAs result (type_param (type_at left) tokens.now) }
 {
     let at = start(tokens);
     let ((ty, fit), rest) = type_expr(alloc, tokens, left)?;
@@ -133,13 +136,8 @@ fn type_param(alloc: Global, tokens: Tokens<'_>, left: usize) -> Result<(Param, 
 
 /// A parameter without a name.
 #[cycle(types)]
-fn unnamed_param(
-    alloc: Global,
-    variadic: bool,
-    tokens: Tokens<'_>,
-    left: usize,
-) -> Result<(Param, Tokens<'_>), Stop>
-    ensures { Gives (λ x. (x.0, x.1.now)) result (unnamed_param variadic (type_at left) tokens.now) }
+fn unnamed_param(alloc: Global, variadic: bool, tokens: Tokens<'_>, left: usize) -> Read<'_, Param>
+    ensures { ParsesAs result (unnamed_param variadic (type_at left) tokens.now) }
 {
     if !variadic {
         return type_param(alloc, tokens, left);
@@ -159,8 +157,8 @@ fn lone_param(
     name: Ident,
     tokens: Tokens<'_>,
     left: usize,
-) -> Result<(Param, Tokens<'_>), Stop>
-    ensures { Gives (λ x. (x.0, x.1.now)) result (lone_param variadic (type_at left) name tokens.now) }
+) -> Read<'_, Param>
+    ensures { ParsesAs result (lone_param variadic (type_at left) name tokens.now) }
 {
     let names = single(alloc, name)?;
     if !variadic {
@@ -180,8 +178,8 @@ fn first_param(
     name: Ident,
     tokens: Tokens<'_>,
     left: usize,
-) -> Result<(Param, Tokens<'_>), Stop>
-    ensures { Gives (λ x. (x.0, x.1.now)) result (first_param variadic (type_at left) name tokens.now) }
+) -> Read<'_, Param>
+    ensures { ParsesAs result (first_param variadic (type_at left) name tokens.now) }
 {
     if let Ok(rest) = past(Kind::Comma, tokens) {
         let (names, rest) = more_names(alloc, name, rest)?;
@@ -198,8 +196,8 @@ fn one_param(
     variadic: bool,
     tokens: Tokens<'_>,
     left: usize,
-) -> Result<(Param, Tokens<'_>), Stop>
-    ensures { Gives (λ x. (x.0, x.1.now)) result (param_at named variadic (type_at left) tokens.now) }
+) -> Read<'_, Param>
+    ensures { ParsesAs result (param_at named variadic (type_at left) tokens.now) }
 {
     if named {
         let (name, rest) = ident(tokens)?;
@@ -212,14 +210,14 @@ fn one_param(
 #[cycle(types)]
 fn param_row(
     alloc: Global,
-    found: (Items<ParamExpr>, usize),
+    found: Fit<Items<ParamExpr>>,
     named: bool,
     variadic: bool,
     tokens: Tokens<'_>,
     left: usize,
-) -> Result<((Items<ParamExpr>, usize), Tokens<'_>), Stop>
+) -> Read<'_, Fit<Items<ParamExpr>>>
     requires { found.1 ≤ left }
-    ensures { Gives (λ x. (x.0, x.1.now)) result (with_fit found (params_row named variadic left (type_at left) tokens.now)) }
+    ensures { ParsesAs result (with_fit found (params_row named variadic left (type_at left) tokens.now)) }
 {
     let (mut params, mut fit) = found;
     let mut rest = tokens;
@@ -247,15 +245,15 @@ fn param_row(
 #[cycle(types)]
 fn param_end(
     alloc: Global,
-    found: (Items<ParamExpr>, usize),
+    found: Fit<Items<ParamExpr>>,
     param: Param,
     named: bool,
     variadic: bool,
     tokens: Tokens<'_>,
     left: usize,
-) -> Result<((Items<ParamExpr>, usize), Tokens<'_>), Stop>
+) -> Read<'_, Fit<Items<ParamExpr>>>
     requires { found.1 ≤ left }
-    ensures { Gives (λ x. (x.0, x.1.now)) result (with_fit found (params_end named variadic left (type_at left) param tokens.now)) }
+    ensures { ParsesAs result (with_fit found (params_end named variadic left (type_at left) param tokens.now)) }
 {
     let (mut params, fit) = found;
     let fit = fit.min(param.fit);
@@ -280,8 +278,8 @@ fn after_bare<'a>(
     variadic: bool,
     tokens: Tokens<'a>,
     left: usize,
-) -> Result<((Items<ParamExpr>, usize), Tokens<'a>), Stop>
-    ensures { Gives (λ x. (x.0, x.1.now)) result (after_bare variadic left (type_at left) names.now tokens.now) }
+) -> Read<'a, Fit<Items<ParamExpr>>>
+    ensures { ParsesAs result (after_bare variadic left (type_at left) names.now tokens.now) }
 {
     if names.is_empty() {
         return param_row(
@@ -309,8 +307,8 @@ fn first_type<'a>(
     variadic: bool,
     tokens: Tokens<'a>,
     left: usize,
-) -> Result<((Items<ParamExpr>, usize), Tokens<'a>), Stop>
-    ensures { Gives (λ x. (x.0, x.1.now)) result (types_by variadic left (type_at left) names.now name tokens.now) }
+) -> Read<'a, Fit<Items<ParamExpr>>>
+    ensures { ParsesAs result (types_by variadic left (type_at left) names.now name tokens.now) }
 {
     if left == 0 {
         return Err(Stop::At(too_deep(tokens)));
@@ -338,8 +336,8 @@ fn shared_param(
     variadic: bool,
     tokens: Tokens<'_>,
     left: usize,
-) -> Result<(Param, Tokens<'_>), Stop>
-    ensures { Gives (λ x. (x.0, x.1.now)) result (names_by variadic (type_at left) names name tokens.now) }
+) -> Read<'_, Param>
+    ensures { ParsesAs result (names_by variadic (type_at left) names name tokens.now) }
 {
     let Some(first) = names.get(0) else {
         return lone_param(alloc, variadic, name, tokens, left);
@@ -359,8 +357,8 @@ fn array_or_instance<'a>(
     variadic: bool,
     tokens: Tokens<'a>,
     left: usize,
-) -> Result<((Items<ParamExpr>, usize), Tokens<'a>), Stop>
-    ensures { Gives (λ x. (x.0, x.1.now)) result (array_or_instance variadic left (type_at left) names.now name tokens.now) }
+) -> Read<'a, Fit<Items<ParamExpr>>>
+    ensures { ParsesAs result (array_or_instance variadic left (type_at left) names.now name tokens.now) }
 {
     let own = Items::from_slice(alloc, names)?;
     match named_params(alloc, own, name, variadic, tokens, left) {
@@ -383,8 +381,8 @@ fn after_ident(
     variadic: bool,
     tokens: Tokens<'_>,
     left: usize,
-) -> Result<((Items<ParamExpr>, usize), Tokens<'_>), Stop>
-    ensures { Gives (λ x. (x.0, x.1.now)) result (after_ident variadic left (type_at left) names name tokens.now) }
+) -> Read<'_, Fit<Items<ParamExpr>>>
+    ensures { ParsesAs result (after_ident variadic left (type_at left) names name tokens.now) }
 {
     if starts(Kind::ParamEnd, tokens) {
         return first_type(alloc, names.as_slice(), name, variadic, tokens, left);
@@ -404,8 +402,8 @@ fn named_params(
     variadic: bool,
     tokens: Tokens<'_>,
     left: usize,
-) -> Result<((Items<ParamExpr>, usize), Tokens<'_>), Stop>
-    ensures { Gives (λ x. (x.0, x.1.now)) result (named_by variadic left (type_at left) names name tokens.now) }
+) -> Read<'_, Fit<Items<ParamExpr>>>
+    ensures { ParsesAs result (named_by variadic left (type_at left) names name tokens.now) }
 {
     let (param, rest) = shared_param(alloc, names, name, variadic, tokens, left)?;
     param_end(
@@ -426,8 +424,8 @@ fn params(
     variadic: bool,
     tokens: Tokens<'_>,
     left: usize,
-) -> Result<((Items<ParamExpr>, usize), Tokens<'_>), Stop>
-    ensures { Gives (λ x. (x.0, x.1.now)) result (params_from variadic left (type_at left) [] tokens.now) }
+) -> Read<'_, Fit<Items<ParamExpr>>>
+    ensures { ParsesAs result (params_from variadic left (type_at left) [] tokens.now) }
 {
     let mut names = Items::new(alloc);
     let mut rest = tokens;
@@ -447,12 +445,12 @@ fn params(
 #[cycle(types)]
 fn results(
     alloc: Global,
-    params: (Items<ParamExpr>, usize),
+    params: Fit<Items<ParamExpr>>,
     at: u32,
     tokens: Tokens<'_>,
     left: usize,
-) -> Result<((SigExpr, usize), Tokens<'_>), Stop>
-    ensures { Gives (λ x. (x.0, x.1.now)) result (results_by left (type_at left) at params tokens.now) }
+) -> Read<'_, Fit<SigExpr>>
+    ensures { ParsesAs result (results_by left (type_at left) at params tokens.now) }
 {
     let (params, fit) = params;
     if let Ok(rest) = past(Kind::OpenParen, tokens) {
@@ -486,12 +484,8 @@ fn results(
 
 /// The parameters and results of a function.
 #[cycle(types)]
-pub(crate) fn signature(
-    alloc: Global,
-    tokens: Tokens<'_>,
-    left: usize,
-) -> Result<((SigExpr, usize), Tokens<'_>), Stop>
-    ensures { Gives (λ x. (x.0, x.1.now)) result (sig_at left (type_at left) tokens.now) }
+pub(crate) fn signature(alloc: Global, tokens: Tokens<'_>, left: usize) -> Read<'_, Fit<SigExpr>>
+    ensures { ParsesAs result (sig_at left (type_at left) tokens.now) }
 {
     let [first, rest @ ..] = tokens else {
         return Err(Stop::At(Fault::Unexpected(0)));

@@ -1,5 +1,5 @@
 ghost use Rattle.std.specs.Prelude.{◌≡◌, [], ◌∷◌, length, Ok, Err, IfOk};
-ghost use Rattle.go_syntax.specs.Reading.{past, starts, symbol_start, start_of, told_at, Reply, Exactly, Gives};
+ghost use Rattle.go_syntax.specs.Reading.{past, starts, symbol_start, start_of, told_at, Reply, Exactly, ParsesAs};
 ghost use Rattle.go_syntax.specs.declared.faults.Fault.TheVariants.{Deep};
 ghost use Rattle.go_syntax.specs.Kinds.{is_of};
 ghost use Rattle.go_syntax.specs.Params.{shows_types};
@@ -40,6 +40,12 @@ impl<T: Drop> From<AllocFailed<T>> for Stop {
         Stop::OutOfMemory
     }
 }
+
+/// What a reader answers: what it reads, and the tokens after it.
+pub(crate) type Read<'s, T> = Result<(T, Tokens<'s>), Stop>;
+
+/// A tree, and how many more nodes its longest path might have.
+pub(crate) type Fit<T> = (T, usize);
 
 /// A test of a token.
 #[derive(Clone, Copy)]
@@ -310,11 +316,8 @@ pub(crate) fn too_deep(tokens: Tokens<'_>) -> Fault
 }
 
 /// The same answer, where a path that is too long is told at this place.
-pub(crate) fn told_at<T: Drop>(
-    at: u32,
-    answer: Result<(T, Tokens<'_>), Stop>,
-) -> Result<(T, Tokens<'_>), Stop>
-    ensures { (read : Reply T) → Gives (λ x. (x.0, x.1.now)) answer.entry read → Gives (λ x. (x.0, x.1.now)) result (told_at at read) }
+pub(crate) fn told_at<T: Drop>(at: u32, answer: Read<'_, T>) -> Read<'_, T>
+    ensures { (read : Reply T) → ParsesAs answer.entry read → ParsesAs result (told_at at read) }
 {
     match answer {
         Err(Stop::At(Fault::Deep(left, _))) => Err(Stop::At(Fault::Deep(left, at))),

@@ -9,7 +9,7 @@ use sqlite_items::Items;
 use std::alloc::{AllocError, Global};
 
 /// A kind of bracket.
-#[derive(Clone, Copy, Debug)]
+#[derive(Clone, Copy)]
 pub(crate) enum Bracket {
     Round,
     Square,
@@ -17,7 +17,7 @@ pub(crate) enum Bracket {
 }
 
 /// What a token does to a text that is skipped.
-#[derive(Clone, Copy, Debug)]
+#[derive(Clone, Copy)]
 pub(crate) enum Step {
     /// The text goes on.
     Goes,

@@ -1,5 +1,7 @@
 ghost use Rattle.std.specs.Prelude.{◌≡◌, ◌+◌, ◌-◌, IfOk, slice_get};
-ghost use Rattle.go_syntax.specs.Source.{text_of, keyword_symbol, single_operator, pair_operator, operator_symbol, single_symbol, pair_symbol, triple_symbol, mark_symbol, symbol_of, symbols_of};
+ghost use Rattle.go_syntax.specs.TokenView.{text_of, keyword_symbol, single_operator, pair_operator, operator_symbol};
+ghost use Rattle.go_syntax.specs.TokenView.{single_symbol, pair_symbol, triple_symbol, mark_symbol, symbol_of};
+ghost use Rattle.go_syntax.specs.TokenView.{symbols_of};
 
 use crate::symbols::{Ident, Operator, Quoted, Symbol};
 use code_tables::Keyword;

@@ -11,7 +11,7 @@ pub struct Ident {
 }
 
 /// A string literal: its token, and its text in the source with the quotes. Its value is the two.
-#[derive(Debug, Drop)]
+#[derive(Drop)]
 pub struct Quoted<'s> {
     token: Token,
     text: &'s [u8],
@@ -76,7 +76,7 @@ pub enum Operator {
 }
 
 /// What the grammar sees of a token, with the place of its first byte.
-#[derive(Debug, Drop)]
+#[derive(Drop)]
 pub enum Symbol<'s> {
     Ident(Ident),
     Text(Quoted<'s>),

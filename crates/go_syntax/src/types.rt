@@ -1,6 +1,8 @@
 ghost use Rattle.std.specs.Prelude.{◌≡◌, ◌<◌, Err};
-ghost use Rattle.go_syntax.specs.Reading.{told_at, Exactly, Gives};
-ghost use Rattle.go_syntax.specs.Types.{no_type, star_at, lone_by, shared_by, only_by, array_or_instance, first_by, field_by, fields_at, struct_by, paren_by, bracket_by, map_by, chan_by, receive_by, func_by, type_by, type_at, lower_at};
+ghost use Rattle.go_syntax.specs.Reading.{told_at, Exactly, ParsesAs};
+ghost use Rattle.go_syntax.specs.Types.{no_type, star_at, lone_by, shared_by, only_by, array_or_instance, first_by};
+ghost use Rattle.go_syntax.specs.Types.{field_by, fields_at, struct_by, paren_by, bracket_by, map_by, chan_of, chan_by};
+ghost use Rattle.go_syntax.specs.Types.{receive_by, func_by, type_by, type_at, lower_at};
 
 use crate::either::after_fault;
 use crate::elements::interface_type;
@@ -9,7 +11,7 @@ use crate::faults::{Fault, Stop};
 use crate::instances::{begun_type, named_type};
 use crate::names::{more_names, tag};
 use crate::params::signature;
-use crate::reading::{Kind, onward, past, single, start, starts, told_at, too_deep};
+use crate::reading::{Fit, Kind, Read, onward, past, single, start, starts, told_at, too_deep};
 use crate::symbols::{Ident, Symbol, Tokens};
 use crate::tree::{FieldExpr, TypeExpr};
 use sqlite_items::{Boxed, Items};
@@ -33,8 +35,8 @@ fn embedded_name(
     first: Ident,
     tokens: Tokens<'_>,
     left: usize,
-) -> Result<((FieldExpr, usize), Tokens<'_>), Stop>
-    ensures { Gives (λ x. (x.0, x.1.now)) result (lone_by left (type_at left) first tokens.now) }
+) -> Read<'_, Fit<FieldExpr>>
+    ensures { ParsesAs result (lone_by left (type_at left) first tokens.now) }
 {
     if left == 0 {
         return Err(Stop::At(too_deep(tokens)));
@@ -52,13 +54,8 @@ fn embedded_name(
 
 /// The type to which an embedded pointer points, whose star stands at this place.
 #[cycle(types)]
-fn base_type(
-    alloc: Global,
-    at: u32,
-    tokens: Tokens<'_>,
-    left: usize,
-) -> Result<((TypeExpr, usize), Tokens<'_>), Stop>
-    ensures { Gives (λ x. (x.0, x.1.now)) result (told_at at (type_at left tokens.now)) }
+fn base_type(alloc: Global, at: u32, tokens: Tokens<'_>, left: usize) -> Read<'_, Fit<TypeExpr>>
+    ensures { ParsesAs result (told_at at (type_at left tokens.now)) }
 {
     told_at(at, type_expr(alloc, tokens, left))
 }
@@ -70,9 +67,9 @@ fn embedded_pointer(
     at: u32,
     tokens: Tokens<'_>,
     left: usize,
-) -> Result<((FieldExpr, usize), Tokens<'_>), Stop>
+) -> Read<'_, Fit<FieldExpr>>
     requires { 0 < left }
-    ensures { Gives (λ x. (x.0, x.1.now)) result (star_at left (type_at left) at tokens.now) }
+    ensures { ParsesAs result (star_at left (type_at left) at tokens.now) }
 {
     if !starts(Kind::Ident, tokens) {
         return Err(Stop::At(Fault::Unexpected(tokens.len())));
@@ -100,8 +97,8 @@ fn shared_field(
     at: u32,
     tokens: Tokens<'_>,
     left: usize,
-) -> Result<((FieldExpr, usize), Tokens<'_>), Stop>
-    ensures { Gives (λ x. (x.0, x.1.now)) result (shared_by (type_at left) names at tokens.now) }
+) -> Read<'_, Fit<FieldExpr>>
+    ensures { ParsesAs result (shared_by (type_at left) names at tokens.now) }
 {
     let ((ty, fit), rest) = type_expr(alloc, tokens, left)?;
     let (tag, rest) = tag(alloc, rest)?;
@@ -116,8 +113,8 @@ fn only_field(
     name: Ident,
     tokens: Tokens<'_>,
     left: usize,
-) -> Result<((FieldExpr, usize), Tokens<'_>), Stop>
-    ensures { Gives (λ x. (x.0, x.1.now)) result (only_by (type_at left) name tokens.now) }
+) -> Read<'_, Fit<FieldExpr>>
+    ensures { ParsesAs result (only_by (type_at left) name tokens.now) }
 {
     let names = single(alloc, name)?;
     shared_field(alloc, names, name.start, tokens, left)
@@ -130,8 +127,8 @@ fn array_or_instance(
     first: Ident,
     tokens: Tokens<'_>,
     left: usize,
-) -> Result<((FieldExpr, usize), Tokens<'_>), Stop>
-    ensures { Gives (λ x. (x.0, x.1.now)) result (array_or_instance left (type_at left) first tokens.now) }
+) -> Read<'_, Fit<FieldExpr>>
+    ensures { ParsesAs result (array_or_instance left (type_at left) first tokens.now) }
 {
     match only_field(alloc, first, tokens, left) {
         Err(Stop::At(fault)) => after_fault(fault, embedded_name(alloc, first, tokens, left)),
@@ -146,8 +143,8 @@ fn first_field(
     first: Ident,
     tokens: Tokens<'_>,
     left: usize,
-) -> Result<((FieldExpr, usize), Tokens<'_>), Stop>
-    ensures { Gives (λ x. (x.0, x.1.now)) result (first_by left (type_at left) first tokens.now) }
+) -> Read<'_, Fit<FieldExpr>>
+    ensures { ParsesAs result (first_by left (type_at left) first tokens.now) }
 {
     if let Ok(rest) = past(Kind::Comma, tokens) {
         let (names, rest) = more_names(alloc, first, rest)?;
@@ -164,12 +161,8 @@ fn first_field(
 
 /// A field of a struct.
 #[cycle(types)]
-fn one_field(
-    alloc: Global,
-    tokens: Tokens<'_>,
-    left: usize,
-) -> Result<((FieldExpr, usize), Tokens<'_>), Stop>
-    ensures { Gives (λ x. (x.0, x.1.now)) result (field_by left (type_at left) tokens.now) }
+fn one_field(alloc: Global, tokens: Tokens<'_>, left: usize) -> Read<'_, Fit<FieldExpr>>
+    ensures { ParsesAs result (field_by left (type_at left) tokens.now) }
 {
     let [first, rest @ ..] = tokens else {
         return Err(Stop::At(Fault::Unexpected(0)));
@@ -188,12 +181,8 @@ fn one_field(
 
 /// The fields of a struct, after its brace.
 #[cycle(types)]
-fn fields(
-    alloc: Global,
-    tokens: Tokens<'_>,
-    left: usize,
-) -> Result<((Items<FieldExpr>, usize), Tokens<'_>), Stop>
-    ensures { Gives (λ x. (x.0, x.1.now)) result (fields_at left (type_at left) tokens.now) }
+fn fields(alloc: Global, tokens: Tokens<'_>, left: usize) -> Read<'_, Fit<Items<FieldExpr>>>
+    ensures { ParsesAs result (fields_at left (type_at left) tokens.now) }
 {
     let mut found = Items::new(alloc);
     let mut fit = left;
@@ -215,13 +204,8 @@ fn fields(
 
 /// A struct type, after its keyword.
 #[cycle(types)]
-fn struct_type(
-    alloc: Global,
-    at: u32,
-    tokens: Tokens<'_>,
-    left: usize,
-) -> Result<((TypeExpr, usize), Tokens<'_>), Stop>
-    ensures { Gives (λ x. (x.0, x.1.now)) result (struct_by left (type_at left) at tokens.now) }
+fn struct_type(alloc: Global, at: u32, tokens: Tokens<'_>, left: usize) -> Read<'_, Fit<TypeExpr>>
+    ensures { ParsesAs result (struct_by left (type_at left) at tokens.now) }
 {
     let rest = past(Kind::OpenBrace, tokens)?;
     let ((fields, fit), rest) = fields(alloc, rest, left)?;
@@ -230,13 +214,8 @@ fn struct_type(
 
 /// A type in parentheses, after the first.
 #[cycle(types)]
-fn paren_type(
-    alloc: Global,
-    at: u32,
-    tokens: Tokens<'_>,
-    left: usize,
-) -> Result<((TypeExpr, usize), Tokens<'_>), Stop>
-    ensures { Gives (λ x. (x.0, x.1.now)) result (paren_by (type_at left) at tokens.now) }
+fn paren_type(alloc: Global, at: u32, tokens: Tokens<'_>, left: usize) -> Read<'_, Fit<TypeExpr>>
+    ensures { ParsesAs result (paren_by (type_at left) at tokens.now) }
 {
     let ((ty, fit), rest) = type_expr(alloc, tokens, left)?;
     let rest = past(Kind::CloseParen, rest)?;
@@ -246,13 +225,8 @@ fn paren_type(
 
 /// A slice or an array, after its bracket.
 #[cycle(types)]
-fn bracketed(
-    alloc: Global,
-    at: u32,
-    tokens: Tokens<'_>,
-    left: usize,
-) -> Result<((TypeExpr, usize), Tokens<'_>), Stop>
-    ensures { Gives (λ x. (x.0, x.1.now)) result (bracket_by left (type_at left) at tokens.now) }
+fn bracketed(alloc: Global, at: u32, tokens: Tokens<'_>, left: usize) -> Read<'_, Fit<TypeExpr>>
+    ensures { ParsesAs result (bracket_by left (type_at left) at tokens.now) }
 {
     if let Ok(rest) = past(Kind::CloseBracket, tokens) {
         let ((ty, fit), rest) = type_expr(alloc, rest, left)?;
@@ -269,13 +243,8 @@ fn bracketed(
 
 /// A map type, after its keyword.
 #[cycle(types)]
-fn map_type(
-    alloc: Global,
-    at: u32,
-    tokens: Tokens<'_>,
-    left: usize,
-) -> Result<((TypeExpr, usize), Tokens<'_>), Stop>
-    ensures { Gives (λ x. (x.0, x.1.now)) result (map_by (type_at left) at tokens.now) }
+fn map_type(alloc: Global, at: u32, tokens: Tokens<'_>, left: usize) -> Read<'_, Fit<TypeExpr>>
+    ensures { ParsesAs result (map_by (type_at left) at tokens.now) }
 {
     let rest = past(Kind::OpenBracket, tokens)?;
     let ((key, fit), rest) = type_expr(alloc, rest, left)?;
@@ -286,31 +255,20 @@ fn map_type(
     Ok(((TypeExpr::MapOf { key, ty, at }, fit.min(inside)), rest))
 }
 
-/// A channel type, after `chan`.
+/// A channel type, up to the type of what it carries.
 #[cycle(types)]
-fn chan_type(
+fn chan_of(
     alloc: Global,
+    receive: bool,
+    send: bool,
     at: u32,
     tokens: Tokens<'_>,
     left: usize,
-) -> Result<((TypeExpr, usize), Tokens<'_>), Stop>
-    ensures { Gives (λ x. (x.0, x.1.now)) result (chan_by (type_at left) at tokens.now) }
+) -> Read<'_, Fit<TypeExpr>>
+    ensures { ParsesAs result (chan_of (type_at left) receive send at tokens.now) }
 {
-    if let Ok(rest) = past(Kind::Arrow, tokens) {
-        let ((ty, fit), rest) = type_expr(alloc, rest, left)?;
-        let ty = Boxed::new(alloc, ty)?;
-        let (receive, send) = (false, true);
-        let chan = TypeExpr::Chan {
-            receive,
-            send,
-            ty,
-            at,
-        };
-        return Ok(((chan, fit), rest));
-    }
     let ((ty, fit), rest) = type_expr(alloc, tokens, left)?;
     let ty = Boxed::new(alloc, ty)?;
-    let (receive, send) = (true, true);
     let chan = TypeExpr::Chan {
         receive,
         send,
@@ -318,40 +276,32 @@ fn chan_type(
         at,
     };
     Ok(((chan, fit), rest))
+}
+
+/// A channel type, after `chan`.
+#[cycle(types)]
+fn chan_type(alloc: Global, at: u32, tokens: Tokens<'_>, left: usize) -> Read<'_, Fit<TypeExpr>>
+    ensures { ParsesAs result (chan_by (type_at left) at tokens.now) }
+{
+    if let Ok(rest) = past(Kind::Arrow, tokens) {
+        return chan_of(alloc, false, true, at, rest, left);
+    }
+    chan_of(alloc, true, true, at, tokens, left)
 }
 
 /// A channel type, after the arrow before `chan`.
 #[cycle(types)]
-fn receive_type(
-    alloc: Global,
-    at: u32,
-    tokens: Tokens<'_>,
-    left: usize,
-) -> Result<((TypeExpr, usize), Tokens<'_>), Stop>
-    ensures { Gives (λ x. (x.0, x.1.now)) result (receive_by (type_at left) at tokens.now) }
+fn receive_type(alloc: Global, at: u32, tokens: Tokens<'_>, left: usize) -> Read<'_, Fit<TypeExpr>>
+    ensures { ParsesAs result (receive_by (type_at left) at tokens.now) }
 {
     let rest = past(Kind::Chan, tokens)?;
-    let ((ty, fit), rest) = type_expr(alloc, rest, left)?;
-    let ty = Boxed::new(alloc, ty)?;
-    let (receive, send) = (true, false);
-    let chan = TypeExpr::Chan {
-        receive,
-        send,
-        ty,
-        at,
-    };
-    Ok(((chan, fit), rest))
+    chan_of(alloc, true, false, at, rest, left)
 }
 
 /// A function type, after its keyword.
 #[cycle(types)]
-fn func_type(
-    alloc: Global,
-    at: u32,
-    tokens: Tokens<'_>,
-    left: usize,
-) -> Result<((TypeExpr, usize), Tokens<'_>), Stop>
-    ensures { Gives (λ x. (x.0, x.1.now)) result (func_by left (type_at left) at tokens.now) }
+fn func_type(alloc: Global, at: u32, tokens: Tokens<'_>, left: usize) -> Read<'_, Fit<TypeExpr>>
+    ensures { ParsesAs result (func_by left (type_at left) at tokens.now) }
 {
     let ((sig, fit), rest) = signature(alloc, tokens, left)?;
     Ok(((TypeExpr::Func { sig, at }, fit), rest))
@@ -359,12 +309,8 @@ fn func_type(
 
 /// A type, where this many nodes are left for the types inside.
 #[cycle(types)]
-fn type_inside(
-    alloc: Global,
-    tokens: Tokens<'_>,
-    left: usize,
-) -> Result<((TypeExpr, usize), Tokens<'_>), Stop>
-    ensures { Gives (λ x. (x.0, x.1.now)) result (type_by left (type_at left) (lower_at left) tokens.now) }
+fn type_inside(alloc: Global, tokens: Tokens<'_>, left: usize) -> Read<'_, Fit<TypeExpr>>
+    ensures { ParsesAs result (type_by left (type_at left) (lower_at left) tokens.now) }
 {
     let [first, rest @ ..] = tokens else {
         return Err(Stop::At(Fault::Unexpected(0)));
@@ -391,12 +337,8 @@ fn type_inside(
 /// A type with up to this many nodes on a path, and how many more its longest path might have. A path that is
 /// too long is told at its first token.
 #[cycle(types)]
-pub(crate) fn type_expr(
-    alloc: Global,
-    tokens: Tokens<'_>,
-    left: usize,
-) -> Result<((TypeExpr, usize), Tokens<'_>), Stop>
-    ensures { Gives (λ x. (x.0, x.1.now)) result (type_at left tokens.now) }
+pub(crate) fn type_expr(alloc: Global, tokens: Tokens<'_>, left: usize) -> Read<'_, Fit<TypeExpr>>
+    ensures { ParsesAs result (type_at left tokens.now) }
 {
     if left == 0 {
         return Err(Stop::At(no_type(tokens)));
@@ -406,12 +348,8 @@ pub(crate) fn type_expr(
 
 /// A type that stands a node deeper.
 #[cycle(types)]
-pub(crate) fn lower_type(
-    alloc: Global,
-    tokens: Tokens<'_>,
-    left: usize,
-) -> Result<((TypeExpr, usize), Tokens<'_>), Stop>
-    ensures { Gives (λ x. (x.0, x.1.now)) result (lower_at left tokens.now) }
+pub(crate) fn lower_type(alloc: Global, tokens: Tokens<'_>, left: usize) -> Read<'_, Fit<TypeExpr>>
+    ensures { ParsesAs result (lower_at left tokens.now) }
 {
     if left == 0 {
         return Err(Stop::At(no_type(tokens)));

@@ -1,5 +1,5 @@
 use Rattle.std.proofs.Common.{◌≡◌, take}
-use Rattle.go_syntax.specs.Source.{symbols_of}
+use Rattle.go_syntax.specs.TokenView.{symbols_of}
 use Rattle.go_syntax.proofs.source.symbols.Given as goal
 
 abbrev pub invariant-loop-token : goal.invariant-loop-token

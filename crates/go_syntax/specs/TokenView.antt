@@ -1,5 +1,6 @@
 -- What the grammar sees of a source's tokens.
-use Rattle.std.specs.Prelude.{ℕ, ◌+◌, ◌-◌, ◌==◌, ◌&&◌, nat_le, List, [], take, drop, length, map, if◌then◌else◌, Option, Some, None, slice_get}
+use Rattle.std.specs.Prelude.{ℕ, ◌+◌, ◌-◌, ◌==◌, ◌&&◌, nat_le, List, [], take, drop, length, map, if◌then◌else◌, Option}
+use Rattle.std.specs.Prelude.{Some, None, slice_get}
 use Rattle.code_tables.specs.declared.words.Keyword.{Keyword}
 use Rattle.code_tables.specs.declared.words.Keyword.TheVariants as w
 use Rattle.go_lexer.specs.declared.token_kinds.Token.{Token}
