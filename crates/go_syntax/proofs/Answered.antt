@@ -3,16 +3,16 @@ use Rattle.std.proofs.Common.{ℕ, ◌≤◌, List, [], Result, Ok, Err, refl, s
 use Rattle.std.specs.Prelude.{IfOk, IfErr}
 use Rattle.go_lexer.specs.declared.token_kinds.Token.{Token}
 use Rattle.go_syntax.specs.declared.tree.SourceFile.{SourceFile}
-use Rattle.go_syntax.specs.declared.faults.Fault.{Fault}
-use Rattle.go_syntax.specs.declared.faults.Fault.TheVariants as stop
-use Rattle.go_syntax.specs.declared.faults.Stop.{Stop}
-use Rattle.go_syntax.specs.declared.faults.Stop.TheVariants as stopped
-use Rattle.go_syntax.specs.Reading.{Gives}
+use Rattle.go_expr_syntax.specs.declared.faults.Fault.{Fault}
+use Rattle.go_expr_syntax.specs.declared.faults.Fault.TheVariants as stop
+use Rattle.go_expr_syntax.specs.declared.faults.Stop.{Stop}
+use Rattle.go_expr_syntax.specs.declared.faults.Stop.TheVariants as stopped
+use Rattle.go_expr_syntax.specs.Reading.{Gives}
 use Rattle.go_syntax.specs.Decls.{IsFileOf}
 use Rattle.go_syntax.specs.Files.{file_at}
 use Rattle.go_syntax.specs.declared.parsing.TheConstants.{MAX_DEPTH}
 use Rattle.go_syntax.specs.Outcomes.{IsFile, Explains}
-use Rattle.go_syntax.specs.TokenView.{symbols_of}
+use Rattle.go_expr_syntax.specs.TokenView.{symbols_of}
 use Rattle.go_syntax.specs.Parsing.{fault_of, answer_of, Tells, Answers, placed_in, reading_of, IsReading}
 use Rattle.go_syntax.proofs.Laws.{is_found, is_only, is_within, explains}
 

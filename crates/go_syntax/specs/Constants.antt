@@ -1,20 +1,20 @@
 -- Declarations of constants: the grammar, and how they are read.
 use Rattle.std.specs.Prelude.{ℕ, suc, max, List, [], ◌∷◌, Option, Some, None, Ok}
-use Rattle.go_syntax.specs.declared.symbols.Symbol.{Symbol}
-use Rattle.go_syntax.specs.declared.symbols.Symbol.TheVariants as t
-use Rattle.go_syntax.specs.declared.symbols.Ident.{Ident}
-use Rattle.go_syntax.specs.declared.tree.Expr.{Expr}
-use Rattle.go_syntax.specs.declared.tree.TypeExpr.{TypeExpr}
+use Rattle.go_expr_syntax.specs.declared.symbols.Symbol.{Symbol}
+use Rattle.go_expr_syntax.specs.declared.symbols.Symbol.TheVariants as t
+use Rattle.go_expr_syntax.specs.declared.symbols.Ident.{Ident}
+use Rattle.go_expr_syntax.specs.declared.tree.Expr.{Expr}
+use Rattle.go_type_syntax.specs.declared.tree.TypeExpr.{TypeExpr}
 use Rattle.go_syntax.specs.declared.tree.Top.{Top}
 use Rattle.go_syntax.specs.declared.tree.Top.TheVariants as top
 use Rattle.go_syntax.specs.declared.constants.Written.{Written}
-use Rattle.go_syntax.specs.declared.expressions.Operand.{Operand}
-use Rattle.go_syntax.specs.Reading.{Reply, ◌>>=◌, past, choose, peek, is_comma, is_assign, begins_type, steps}
-use Rattle.go_syntax.specs.Names.{IsNames, ident_at, names_at, names_more}
-use Rattle.go_syntax.specs.Expressions.{IsExpr}
-use Rattle.go_syntax.specs.Operands.{outer_expr}
-use Rattle.go_syntax.specs.Grammar.{IsType}
-use Rattle.go_syntax.specs.Types.{type_at}
+use Rattle.go_expr_syntax.specs.declared.expressions.Operand.{Operand}
+use Rattle.go_expr_syntax.specs.Reading.{Reply, ◌>>=◌, past, choose, peek, is_comma, is_assign, begins_type, steps}
+use Rattle.go_expr_syntax.specs.Names.{IsNames, ident_at, names_at, names_more}
+use Rattle.go_expr_syntax.specs.Expressions.{IsExpr}
+use Rattle.go_expr_syntax.specs.Operands.{outer_expr}
+use Rattle.go_type_syntax.specs.Grammar.{IsType}
+use Rattle.go_type_syntax.specs.Types.{type_at}
 
 -- ---- as they are written
 

@@ -1,22 +1,21 @@
 -- The grammar of declarations and files, a production a case. The number is that of the nodes on a longest path of a tree.
 use Rattle.std.specs.Prelude.{◌≡◌, ℕ, max, true, false, List, [], ◌∷◌, ◌++◌, Option, Some, None}
-use Rattle.go_syntax.specs.declared.symbols.Symbol.{Symbol}
-use Rattle.go_syntax.specs.declared.symbols.Symbol.TheVariants as t
-use Rattle.go_syntax.specs.declared.symbols.Ident.{Ident}
-use Rattle.go_syntax.specs.Reading.{Quoted}
+use Rattle.go_expr_syntax.specs.declared.symbols.Symbol.{Symbol}
+use Rattle.go_expr_syntax.specs.declared.symbols.Symbol.TheVariants as t
+use Rattle.go_expr_syntax.specs.declared.symbols.Ident.{Ident}
+use Rattle.go_expr_syntax.specs.Reading.{Quoted, starts, shows_length}
 use Rattle.string_literals.specs.Values.{value_of}
 use Rattle.go_syntax.specs.declared.constants.Written.{Written}
 use Rattle.go_syntax.specs.declared.tree.Import.{Import}
 use Rattle.go_syntax.specs.declared.tree.Top.{Top}
 use Rattle.go_syntax.specs.declared.tree.Top.TheVariants as top
-use Rattle.go_syntax.specs.declared.tree.TypeExpr.{TypeExpr}
+use Rattle.go_type_syntax.specs.declared.tree.TypeExpr.{TypeExpr}
 use Rattle.go_syntax.specs.declared.tree.FuncDecl.{FuncDecl}
 use Rattle.go_syntax.specs.declared.tree.TParam.{TParam}
 use Rattle.go_syntax.specs.declared.tree.SourceFile.{SourceFile}
-use Rattle.go_syntax.specs.Names.{IsNames}
-use Rattle.go_syntax.specs.Grammar.{IsType}
-use Rattle.go_syntax.specs.Reading.{starts}
-use Rattle.go_syntax.specs.Generics.{IsTParams, shows_length}
+use Rattle.go_expr_syntax.specs.Names.{IsNames}
+use Rattle.go_type_syntax.specs.Grammar.{IsType}
+use Rattle.go_syntax.specs.Generics.{IsTParams}
 use Rattle.go_syntax.specs.Skipped.{IsSkipped}
 use Rattle.go_syntax.specs.Functions.{IsFunc}
 use Rattle.go_syntax.specs.Constants.{IsConstSpec, counted}

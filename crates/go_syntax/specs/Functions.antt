@@ -1,19 +1,19 @@
 -- Declarations of functions and methods, as they are written and as they are read.
 use Rattle.std.specs.Prelude.{◌≡◌, ℕ, max, Bool, true, false, List, [], ◌∷◌, ◌++◌, Option, Some, None, Ok}
-use Rattle.go_syntax.specs.declared.symbols.Symbol.{Symbol}
-use Rattle.go_syntax.specs.declared.symbols.Symbol.TheVariants as t
-use Rattle.go_syntax.specs.declared.symbols.Ident.{Ident}
+use Rattle.go_expr_syntax.specs.declared.symbols.Symbol.{Symbol}
+use Rattle.go_expr_syntax.specs.declared.symbols.Symbol.TheVariants as t
+use Rattle.go_expr_syntax.specs.declared.symbols.Ident.{Ident}
 use Rattle.go_syntax.specs.declared.tree.Receiver.{Receiver}
 use Rattle.go_syntax.specs.declared.tree.FuncDecl.{FuncDecl}
-use Rattle.go_syntax.specs.declared.tree.SigExpr.{SigExpr}
+use Rattle.go_type_syntax.specs.declared.tree.SigExpr.{SigExpr}
 use Rattle.go_syntax.specs.declared.tree.TParam.{TParam}
-use Rattle.go_syntax.specs.Reading.{Reply, ◌>>=◌, past, choose, starts, is_comma, is_close_paren, is_open_paren}
-use Rattle.go_syntax.specs.Reading.{is_open_bracket, is_close_bracket, is_open_brace, is_close_brace, is_star, ListForm}
-use Rattle.go_syntax.specs.Reading.{series_item, series}
-use Rattle.go_syntax.specs.Names.{ident_at, ident_or}
-use Rattle.go_syntax.specs.Grammar.{IsSig}
-use Rattle.go_syntax.specs.Params.{sig_at}
-use Rattle.go_syntax.specs.Types.{type_at}
+use Rattle.go_expr_syntax.specs.Reading.{Reply, ◌>>=◌, past, choose, starts, is_comma, is_close_paren, is_open_paren}
+use Rattle.go_expr_syntax.specs.Reading.{is_open_bracket, is_close_bracket, is_open_brace, is_close_brace, is_star}
+use Rattle.go_expr_syntax.specs.Reading.{ListForm, series_item, series}
+use Rattle.go_expr_syntax.specs.Names.{ident_at, ident_or}
+use Rattle.go_type_syntax.specs.Grammar.{IsSig}
+use Rattle.go_type_syntax.specs.Params.{sig_at}
+use Rattle.go_type_syntax.specs.Types.{type_at}
 use Rattle.go_syntax.specs.Generics.{IsGeneric, generic_at}
 use Rattle.go_syntax.specs.Skipped.{IsSkipped, skip}
 

@@ -1,16 +1,16 @@
 -- Type parameters: the grammar, and how they are read.
 use Rattle.std.specs.Prelude.{◌≡◌, ℕ, max, Bool, true, false, List, [], ◌∷◌, ◌++◌, if◌then◌else◌, Ok}
-use Rattle.go_syntax.specs.declared.symbols.Symbol.{Symbol}
-use Rattle.go_syntax.specs.declared.symbols.Symbol.TheVariants as t
-use Rattle.go_syntax.specs.declared.symbols.Ident.{Ident}
+use Rattle.go_expr_syntax.specs.declared.symbols.Symbol.{Symbol}
+use Rattle.go_expr_syntax.specs.declared.symbols.Symbol.TheVariants as t
+use Rattle.go_expr_syntax.specs.declared.symbols.Ident.{Ident}
 use Rattle.go_syntax.specs.declared.tree.TParam.{TParam}
-use Rattle.go_syntax.specs.declared.tree.TypeExpr.{TypeExpr}
-use Rattle.go_syntax.specs.Reading.{Reply, Fit, from_start, ◌>>=◌, past, choose, starts, is_comma, is_open_bracket}
-use Rattle.go_syntax.specs.Reading.{is_close_bracket, ListForm, series_item, series}
-use Rattle.go_syntax.specs.Names.{IsNames, ident_at, names_at, names_more}
-use Rattle.go_syntax.specs.Grammar.{IsUnion}
-use Rattle.go_syntax.specs.Elements.{union_at}
-use Rattle.go_syntax.specs.Types.{type_at, lower_at}
+use Rattle.go_type_syntax.specs.declared.tree.TypeExpr.{TypeExpr}
+use Rattle.go_expr_syntax.specs.Reading.{shows_length, Reply, Fit, from_start, ◌>>=◌, past, choose, starts, is_comma}
+use Rattle.go_expr_syntax.specs.Reading.{is_open_bracket, is_close_bracket, ListForm, series_item, series}
+use Rattle.go_expr_syntax.specs.Names.{IsNames, ident_at, names_at, names_more}
+use Rattle.go_type_syntax.specs.Grammar.{IsUnion}
+use Rattle.go_type_syntax.specs.Elements.{union_at}
+use Rattle.go_type_syntax.specs.Types.{type_at, lower_at}
 
 abbrev pub tparam : List Ident → TypeExpr → ℕ → TParam
 tparam names constraint at = record { names = names; constraint = constraint; at = at }
@@ -35,16 +35,6 @@ pub data IsGeneric : ℕ → List Symbol → List TParam → List Symbol → Typ
   plain : (rest : List Symbol) → IsGeneric 0 rest [] rest
   with_params : (n o : ℕ) (ts : List Symbol) (xs : List TParam) (rest : List Symbol)
       → starts is_close_bracket ts ≡ false → IsTParams n ts xs rest → IsGeneric n (t.OpenBracket o ∷ ts) xs rest
-
--- whether this token goes on with the length of an array after an identifier, or ends it
-abbrev pub shows_length : Symbol → Bool
-shows_length (t.CloseBracket at) = true
-shows_length (t.Dot at) = true
-shows_length (t.OpenParen at) = true
-shows_length (t.Star at) = true
-shows_length (t.Bar at) = true
-shows_length (t.Operator op at) = true
-shows_length _ = false
 
 -- whether type parameters come next after a declared type's name, and not an array
 abbrev pub opens_params : List Symbol → Bool

@@ -2,16 +2,16 @@
 use Rattle.std.specs.Prelude.{◌≡◌, ℕ, List, Result, Ok, Err}
 use Rattle.go_lexer.specs.declared.token_kinds.Token.{Token}
 use Rattle.go_syntax.specs.declared.tree.SourceFile.{SourceFile}
-use Rattle.go_syntax.specs.declared.faults.Fault.{Fault}
-use Rattle.go_syntax.specs.declared.faults.Fault.TheVariants as stop
-use Rattle.go_syntax.specs.declared.faults.Stop.{Stop}
-use Rattle.go_syntax.specs.declared.faults.Stop.TheVariants as stopped
+use Rattle.go_expr_syntax.specs.declared.faults.Fault.{Fault}
+use Rattle.go_expr_syntax.specs.declared.faults.Fault.TheVariants as stop
+use Rattle.go_expr_syntax.specs.declared.faults.Stop.{Stop}
+use Rattle.go_expr_syntax.specs.declared.faults.Stop.TheVariants as stopped
 use Rattle.go_syntax.specs.declared.parsing.LeftOutKind.{LeftOutKind}
 use Rattle.go_syntax.specs.declared.parsing.LeftOutKind.TheVariants as what
 use Rattle.go_syntax.specs.declared.parsing.SyntaxFault.{SyntaxFault}
 use Rattle.go_syntax.specs.declared.parsing.SyntaxFault.TheVariants as fault
 use Rattle.go_syntax.specs.Outcomes.{IsUnexpected, IsTooDeep}
-use Rattle.go_syntax.specs.TokenView.{symbols_of, place_of}
+use Rattle.go_expr_syntax.specs.TokenView.{symbols_of, place_of}
 use Rattle.go_syntax.specs.Files.{file_at}
 use Rattle.go_syntax.specs.declared.parsing.TheConstants.{MAX_DEPTH}
 

@@ -1,12 +1,12 @@
 -- Text that is skipped: any tokens in which the brackets match, each with its own kind.
 use Rattle.std.specs.Prelude.{◌≡◌, Bool, true, false, List, [], ◌∷◌, if◌then◌else◌, Option, Some, None, Ok}
-use Rattle.go_syntax.specs.declared.symbols.Symbol.{Symbol}
-use Rattle.go_syntax.specs.declared.symbols.Symbol.TheVariants as t
+use Rattle.go_expr_syntax.specs.declared.symbols.Symbol.{Symbol}
+use Rattle.go_expr_syntax.specs.declared.symbols.Symbol.TheVariants as t
 use Rattle.go_syntax.specs.declared.skipped.Bracket.{Bracket}
 use Rattle.go_syntax.specs.declared.skipped.Bracket.TheVariants.{Round, Square, Curly}
 use Rattle.go_syntax.specs.declared.skipped.Step.{Step}
 use Rattle.go_syntax.specs.declared.skipped.Step.TheVariants as step
-use Rattle.go_syntax.specs.Reading.{Reply, unexpected, is_semicolon}
+use Rattle.go_expr_syntax.specs.Reading.{Reply, unexpected, is_semicolon}
 
 -- the kind of bracket that a token opens, and that it closes
 abbrev pub opened : Symbol → Option Bracket

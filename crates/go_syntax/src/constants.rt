@@ -1,16 +1,15 @@
 ghost use Rattle.std.specs.Prelude.{◌≡◌, None};
-ghost use Rattle.go_syntax.specs.Reading.{row, is_close_paren, ParsesAs};
+ghost use Rattle.go_expr_syntax.specs.Reading.{row, is_close_paren, ParsesAs};
 ghost use Rattle.go_syntax.specs.Constants.{source_of, constants, exprs_at, const_values, const_typed, const_rest};
 ghost use Rattle.go_syntax.specs.Constants.{const_first, const_spec_at};
 ghost use Rattle.go_syntax.specs.Files.{counting, const_group_at};
 
-use crate::expressions::outer_expression;
-use crate::faults::Stop;
-use crate::names::more_names;
-use crate::reading::{Kind, Read, ident, onward, past, starts};
-use crate::symbols::{Ident, Tokens};
-use crate::tree::{ConstSpec, Expr, Top, TypeExpr};
-use crate::types::type_expr;
+use crate::tree::{ConstSpec, Top};
+use go_expr_syntax::{
+    Expr, Ident, Kind, Read, Stop, Tokens, ident, more_names, onward, outer_expression, past,
+    starts,
+};
+use go_type_syntax::{TypeExpr, type_expr};
 use sqlite_items::Items;
 use std::alloc::Global;
 

@@ -1,5 +1,5 @@
 ghost use Rattle.std.specs.Prelude.{◌≡◌, ◌≤◌, IfOk};
-ghost use Rattle.go_syntax.specs.Reading.{Exactly, row, is_close_paren, ParsesAs};
+ghost use Rattle.go_expr_syntax.specs.Reading.{Exactly, row, is_close_paren, ParsesAs};
 ghost use Rattle.go_syntax.specs.Files.{text_at, named_import, import_at, value_at, vars_typed, vars_rest, vars_first};
 ghost use Rattle.go_syntax.specs.Files.{declared_by, type_first, group_at, const_group_at, func_group_at, some_decl};
 ghost use Rattle.go_syntax.specs.Files.{import_decl, top_decl};
@@ -7,15 +7,14 @@ ghost use Rattle.go_syntax.specs.Decls.{import};
 ghost use Rattle.go_syntax.specs.Specs.{spec_of};
 
 use crate::constants::const_group;
-use crate::faults::{Fault, Stop};
 use crate::functions::func_decl;
 use crate::generics::{opens_params, type_params};
-use crate::names::more_names;
-use crate::reading::{Kind, Read, ident, onward, past, single};
 use crate::skipped::skipped;
-use crate::symbols::{Ident, Quoted, Symbol, Tokens};
 use crate::tree::{Import, TParam, Top, TypeSpec, VarSpec};
-use crate::types::type_expr;
+use go_expr_syntax::{
+    Fault, Ident, Kind, Quoted, Read, Stop, Symbol, Tokens, ident, more_names, onward, past, single,
+};
+use go_type_syntax::type_expr;
 use sqlite_items::Items;
 use std::alloc::{AllocError, Global};
 use string_literals::unquoted;

@@ -1,12 +1,10 @@
 ghost use Rattle.std.specs.Prelude.{◌≤◌};
-ghost use Rattle.go_syntax.specs.Reading.{Gives, ParsesAs};
+ghost use Rattle.go_expr_syntax.specs.Reading.{Gives, ParsesAs};
 ghost use Rattle.go_syntax.specs.Files.{imports_at, tops_at, file_front, file_at};
 
 use crate::decls::{import_decl, top_decl};
-use crate::faults::{Fault, Stop};
-use crate::reading::{Kind, Read, ident, onward, past};
-use crate::symbols::Tokens;
 use crate::tree::{Import, SourceFile, Top};
+use go_expr_syntax::{Fault, Kind, Read, Stop, Tokens, ident, onward, past};
 use sqlite_items::Items;
 use std::alloc::Global;
 

@@ -1,16 +1,14 @@
 ghost use Rattle.std.specs.Prelude.{◌≡◌};
-ghost use Rattle.go_syntax.specs.Reading.{Exactly, ParsesAs};
+ghost use Rattle.go_expr_syntax.specs.Reading.{Exactly, ParsesAs};
 ghost use Rattle.go_syntax.specs.Functions.{idents_row, idents_at, args_at, receiver_end, receiver_base};
 ghost use Rattle.go_syntax.specs.Functions.{receiver_pointer, receiver_first, receiver_at, body_at, func_sig};
 ghost use Rattle.go_syntax.specs.Functions.{method_name, func_name, func_at};
 
-use crate::faults::{Fault, Stop};
 use crate::generics::generic;
-use crate::params::signature;
-use crate::reading::{Kind, Read, ident, onward, past, single};
 use crate::skipped::skipped;
-use crate::symbols::{Ident, Tokens};
 use crate::tree::{FuncDecl, Receiver, TParam};
+use go_expr_syntax::{Fault, Ident, Kind, Read, Stop, Tokens, ident, onward, past, single};
+use go_type_syntax::signature;
 use sqlite_items::Items;
 use std::alloc::Global;
 

@@ -1,14 +1,14 @@
 ghost use Rattle.std.specs.Prelude.{◌≡◌};
-ghost use Rattle.go_syntax.specs.Reading.{ParsesAs};
+ghost use Rattle.go_expr_syntax.specs.Reading.{ParsesAs};
 ghost use Rattle.go_syntax.specs.Generics.{opens_params, constraint_at, tparam_type, tparam_first, tparam_at};
 ghost use Rattle.go_syntax.specs.Generics.{tparams_row, tparams_at, generic_at};
 
-use crate::elements::union_type;
-use crate::faults::Stop;
-use crate::names::more_names;
-use crate::reading::{Fit, Kind, Read, ident, onward, past, single, start, starts, told_at};
-use crate::symbols::{Ident, Symbol, Tokens};
-use crate::tree::{TParam, TypeExpr};
+use crate::tree::TParam;
+use go_expr_syntax::{
+    Fit, Ident, Kind, Read, Stop, Symbol, Tokens, ident, more_names, onward, past, single, start,
+    starts, told_at,
+};
+use go_type_syntax::{TypeExpr, union_type};
 use sqlite_items::Items;
 use std::alloc::Global;
 

@@ -1,5 +1,5 @@
 ghost use Rattle.std.specs.Prelude.{◌≡◌, ◌<◌, ℕ, List, []};
-ghost use Rattle.go_syntax.specs.declared.symbols.Symbol.{Symbol};
+ghost use Rattle.go_expr_syntax.specs.declared.symbols.Symbol.{Symbol};
 ghost use Rattle.go_syntax.specs.declared.tree.SourceFile.{SourceFile};
 ghost use Rattle.go_syntax.specs.Decls.{IsFileOf};
 ghost use Rattle.go_syntax.specs.Outcomes.{IsFile, IsUnexpected, IsTooDeep};

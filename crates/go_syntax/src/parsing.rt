@@ -1,18 +1,17 @@
 ghost use Rattle.std.specs.Prelude.{◌≡◌, ◌≤◌, ℕ, [], length, IfOk, IfErr};
-ghost use Rattle.go_syntax.specs.Reading.{Gives};
+ghost use Rattle.go_expr_syntax.specs.Reading.{Gives};
 ghost use Rattle.go_syntax.specs.Files.{file_at};
 ghost use Rattle.go_syntax.specs.Decls.{IsFileOf};
 ghost use Rattle.go_syntax.specs.Outcomes.{IsFile};
-ghost use Rattle.go_syntax.specs.TokenView.{symbols_of, place_of};
+ghost use Rattle.go_expr_syntax.specs.TokenView.{symbols_of, place_of};
 ghost use Rattle.go_syntax.specs.Parsing.{fault_of, answer_of, Tells, Answers, reading_of, IsReading};
 ghost use Rattle.go_syntax.specs.declared.tree.SourceFile.{SourceFile};
 ghost use Rattle.go_syntax.specs.declared.parsing.TheConstants.{MAX_DEPTH};
 ghost use Rattle.go_lexer.specs.declared.lexing.TheConstants.{SOURCE_LIMIT};
 
-use crate::faults::{Fault, Stop};
 use crate::files::read_file;
-use crate::source::symbols;
 use crate::tree::SourceFile;
+use go_expr_syntax::{Fault, Stop, symbols_of};
 use go_lexer::Token;
 use std::alloc::Global;
 
@@ -80,7 +79,7 @@ fn fault_of(src: &[u8], tokens: &[Token], fault: Fault) -> SyntaxFault
 fn read_source(alloc: Global, src: &[u8], tokens: &[Token]) -> Result<SourceFile, Stop>
     ensures { Gives (λ f. f) result (file_at MAX_DEPTH (symbols_of src.now tokens.now)) }
 {
-    let symbols = symbols(alloc, src, tokens)?;
+    let symbols = symbols_of(alloc, src, tokens)?;
     read_file(alloc, &symbols, MAX_DEPTH)
 }
 

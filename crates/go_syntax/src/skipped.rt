@@ -1,10 +1,8 @@
 ghost use Rattle.std.specs.Prelude.{◌≡◌, [], reverse, IfOk};
-ghost use Rattle.go_syntax.specs.Reading.{Gives, Exactly};
+ghost use Rattle.go_expr_syntax.specs.Reading.{Gives, Exactly};
 ghost use Rattle.go_syntax.specs.Skipped.{opened, closed, same, stands_outside, skip, Steps};
 
-use crate::faults::{Fault, Stop};
-use crate::reading::{Kind, starts};
-use crate::symbols::{Symbol, Tokens};
+use go_expr_syntax::{Fault, Kind, Stop, Symbol, Tokens, starts};
 use sqlite_items::Items;
 use std::alloc::{AllocError, Global};
 
