@@ -1,13 +1,13 @@
 ghost use Rattle.std.specs.Prelude.{◌≡◌, None};
 ghost use Rattle.go_expr_syntax.specs.Reading.{row, is_close_paren, ParsesAs};
-ghost use Rattle.go_syntax.specs.Constants.{source_of, constants, exprs_at, const_values, const_typed, const_rest};
-ghost use Rattle.go_syntax.specs.Constants.{const_first, const_spec_at};
+ghost use Rattle.go_syntax.specs.Constants.{source_of, constants, exprs_at, const_values, const_assign, const_typed};
+ghost use Rattle.go_syntax.specs.Constants.{const_rest, const_first, const_spec_at};
 ghost use Rattle.go_syntax.specs.Files.{counting, const_group_at};
 
 use crate::tree::{ConstSpec, Top};
 use go_expr_syntax::{
     Expr, Ident, Kind, Read, Stop, Tokens, ident, more_names, onward, outer_expression, past,
-    starts,
+    single, starts,
 };
 use go_type_syntax::{TypeExpr, type_expr};
 use sqlite_items::Items;
@@ -51,13 +51,26 @@ fn values(
     Ok((Written { names, ty, values }, rest))
 }
 
+/// The values of constants of this type.
+fn assigned(
+    alloc: Global,
+    names: Items<Ident>,
+    ty: TypeExpr,
+    tokens: Tokens<'_>,
+    left: usize,
+) -> Read<'_, Written>
+    ensures { ParsesAs result (const_assign left names ty tokens.now) }
+{
+    let rest = past(Kind::Assign, tokens)?;
+    values(alloc, names, Some(ty), rest, left)
+}
+
 /// The type and values of constants.
 fn typed(alloc: Global, names: Items<Ident>, tokens: Tokens<'_>, left: usize) -> Read<'_, Written>
     ensures { ParsesAs result (const_typed left names tokens.now) }
 {
     let ((ty, _), rest) = type_expr(alloc, tokens, left)?;
-    let rest = past(Kind::Assign, rest)?;
-    values(alloc, names, Some(ty), rest, left)
+    assigned(alloc, names, ty, rest, left)
 }
 
 /// What follows the names of constants.
@@ -91,8 +104,7 @@ fn first_const(alloc: Global, first: Ident, tokens: Tokens<'_>, left: usize) -> 
         let (names, rest) = more_names(alloc, first, rest)?;
         return after_names(alloc, names, rest, left);
     }
-    let mut names = Items::new(alloc);
-    names.push(first)?;
+    let names = single(alloc, first)?;
     after_names(alloc, names, tokens, left)
 }
 

@@ -1,10 +1,10 @@
 ghost use Rattle.std.specs.Prelude.{◌≤◌};
 ghost use Rattle.go_expr_syntax.specs.Reading.{Gives, ParsesAs};
-ghost use Rattle.go_syntax.specs.Files.{imports_at, tops_at, file_front, file_at};
+ghost use Rattle.go_syntax.specs.Files.{imports_at, tops_at, file_tops, file_front, file_at};
 
 use crate::decls::{import_decl, top_decl};
 use crate::tree::{Import, SourceFile, Top};
-use go_expr_syntax::{Fault, Kind, Read, Stop, Tokens, ident, onward, past};
+use go_expr_syntax::{Fault, Ident, Kind, Read, Stop, Tokens, ident, onward, past};
 use sqlite_items::Items;
 use std::alloc::Global;
 
@@ -41,6 +41,26 @@ fn tops(alloc: Global, tokens: Tokens<'_>, left: usize) -> Read<'_, Items<Top>>
     }
 }
 
+/// A file's declarations, after its imports.
+fn with_tops(
+    alloc: Global,
+    name: Ident,
+    imports: Items<Import>,
+    tokens: Tokens<'_>,
+    left: usize,
+) -> Read<'_, SourceFile>
+    requires { 2 ≤ left }
+    ensures { ParsesAs result (file_tops left name imports tokens.now) }
+{
+    let (tops, rest) = tops(alloc, tokens, left)?;
+    let file = SourceFile {
+        name,
+        imports,
+        tops,
+    };
+    Ok((file, rest))
+}
+
 /// A file's package clause, imports and declarations, and the tokens after them.
 #[tactic(auto, unfolding(crate::specs::Files::file_front))]
 fn file_front(alloc: Global, tokens: Tokens<'_>, left: usize) -> Read<'_, SourceFile>
@@ -51,13 +71,7 @@ fn file_front(alloc: Global, tokens: Tokens<'_>, left: usize) -> Read<'_, Source
     let (name, rest) = ident(rest)?;
     let rest = past(Kind::Semicolon, rest)?;
     let (imports, rest) = imports(alloc, rest)?;
-    let (tops, rest) = tops(alloc, rest, left)?;
-    let file = SourceFile {
-        name,
-        imports,
-        tops,
-    };
-    Ok((file, rest))
+    with_tops(alloc, name, imports, rest, left)
 }
 
 /// The file that these tokens are, as the reading of lists has it.

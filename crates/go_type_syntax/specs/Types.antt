@@ -36,8 +36,14 @@ array_end inner at length us = past is_close_bracket us >>= λ vs. array_item in
 abbrev pub array_by : ℕ → (List Symbol → Reply (Fit TypeExpr)) → ℕ → List Symbol → Reply (Fit TypeExpr)
 array_by n inner at ts = expr_at n ts >>= λ x. array_end inner at x.0 x.1
 
+abbrev pub pointer_by : (List Symbol → Reply (Fit TypeExpr)) → ℕ → List Symbol → Reply (Fit TypeExpr)
+pointer_by inner at ts = with_type inner (λ ty. y.Pointer ty at) ts
+
+abbrev pub slice_by : (List Symbol → Reply (Fit TypeExpr)) → ℕ → List Symbol → Reply (Fit TypeExpr)
+slice_by inner at ts = with_type inner (λ ty. y.Slice ty at) ts
+
 abbrev pub bracket_by : ℕ → (List Symbol → Reply (Fit TypeExpr)) → ℕ → List Symbol → Reply (Fit TypeExpr)
-bracket_by n inner at ts = choose (past is_close_bracket ts) (λ us. with_type inner (λ ty. y.Slice ty at) us) (array_by n inner at ts)
+bracket_by n inner at ts = choose (past is_close_bracket ts) (λ us. slice_by inner at us) (array_by n inner at ts)
 
 abbrev pub map_value : (List Symbol → Reply (Fit TypeExpr)) → ℕ → Fit TypeExpr → List Symbol → Reply (Fit TypeExpr)
 map_value inner at key vs = inner vs >>= λ ty. Ok ((y.MapOf key.0 ty.0.0 at, min key.1 ty.0.1), ty.1)
@@ -128,7 +134,7 @@ abbrev pub type_by : ℕ → (List Symbol → Reply (Fit TypeExpr)) → (List Sy
     → Reply (Fit TypeExpr)
 type_by n inner lower (t.Ident i ∷ ts) = name_by n inner i ts
 type_by n inner lower (t.OpenParen at ∷ ts) = paren_by inner at ts
-type_by n inner lower (t.Star at ∷ ts) = with_type inner (λ ty. y.Pointer ty at) ts
+type_by n inner lower (t.Star at ∷ ts) = pointer_by inner at ts
 type_by n inner lower (t.OpenBracket at ∷ ts) = bracket_by n inner at ts
 type_by n inner lower (t.Map at ∷ ts) = map_by inner at ts
 type_by n inner lower (t.Chan at ∷ ts) = chan_by inner at ts

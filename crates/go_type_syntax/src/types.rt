@@ -1,8 +1,9 @@
 ghost use Rattle.std.specs.Prelude.{◌≡◌, ◌<◌, Err};
 ghost use Rattle.go_expr_syntax.specs.Reading.{told_at, Exactly, ParsesAs};
-ghost use Rattle.go_type_syntax.specs.Types.{no_type, star_at, lone_by, shared_by, only_by, array_or_instance};
-ghost use Rattle.go_type_syntax.specs.Types.{first_by, field_by, fields_at, struct_by, paren_by, bracket_by, map_by};
-ghost use Rattle.go_type_syntax.specs.Types.{chan_of, chan_by, receive_by, func_by, type_by, type_at, lower_at};
+ghost use Rattle.go_type_syntax.specs.Types.{pointer_by, slice_by, array_by, no_type, star_at, lone_by, tagged};
+ghost use Rattle.go_type_syntax.specs.Types.{shared_by, only_by, array_or_instance, first_by, field_by, fields_at};
+ghost use Rattle.go_type_syntax.specs.Types.{struct_by, paren_by, bracket_by, map_by, chan_of, chan_by, receive_by};
+ghost use Rattle.go_type_syntax.specs.Types.{func_by, type_by, type_at, lower_at};
 
 use crate::elements::interface_type;
 use crate::instances::{begun_type, named_type};
@@ -87,6 +88,21 @@ fn embedded_pointer(
     Ok(((field, fit), rest))
 }
 
+/// A field of this type, with its tag, if one comes next.
+fn tagged(
+    alloc: Global,
+    names: Items<Ident>,
+    ty: Fit<TypeExpr>,
+    at: u32,
+    tokens: Tokens<'_>,
+) -> Read<'_, Fit<FieldExpr>>
+    ensures { ParsesAs result (tagged names ty at tokens.now) }
+{
+    let (ty, fit) = ty;
+    let (tag, rest) = tag(alloc, tokens)?;
+    Ok(((FieldExpr { names, ty, tag, at }, fit), rest))
+}
+
 /// The type and tag of a field, after its names.
 #[cycle(types)]
 fn shared_field(
@@ -98,10 +114,8 @@ fn shared_field(
 ) -> Read<'_, Fit<FieldExpr>>
     ensures { ParsesAs result (shared_by (type_at left) names at tokens.now) }
 {
-    let ((ty, fit), rest) = type_expr(alloc, tokens, left)?;
-    let (tag, rest) = tag(alloc, rest)?;
-    let field = FieldExpr { names, ty, tag, at };
-    Ok(((field, fit), rest))
+    let (ty, rest) = type_expr(alloc, tokens, left)?;
+    tagged(alloc, names, ty, at, rest)
 }
 
 /// A field with one name, after the name.
@@ -210,15 +224,53 @@ fn struct_type(alloc: Global, at: u32, tokens: Tokens<'_>, left: usize) -> Read<
     Ok(((TypeExpr::Struct { fields, at }, fit), rest))
 }
 
+/// A type in a box of its own.
+#[cycle(types)]
+fn boxed_type(alloc: Global, tokens: Tokens<'_>, left: usize) -> Read<'_, Fit<Boxed<TypeExpr>>>
+    ensures { ParsesAs result (type_at left tokens.now) }
+{
+    let ((ty, fit), rest) = type_expr(alloc, tokens, left)?;
+    Ok(((Boxed::new(alloc, ty)?, fit), rest))
+}
+
 /// A type in parentheses, after the first.
 #[cycle(types)]
 fn paren_type(alloc: Global, at: u32, tokens: Tokens<'_>, left: usize) -> Read<'_, Fit<TypeExpr>>
     ensures { ParsesAs result (paren_by (type_at left) at tokens.now) }
 {
-    let ((ty, fit), rest) = type_expr(alloc, tokens, left)?;
+    let ((ty, fit), rest) = boxed_type(alloc, tokens, left)?;
     let rest = past(Kind::CloseParen, rest)?;
-    let ty = Boxed::new(alloc, ty)?;
     Ok(((TypeExpr::Paren { ty, at }, fit), rest))
+}
+
+/// A pointer, after its star.
+#[cycle(types)]
+fn pointer_type(alloc: Global, at: u32, tokens: Tokens<'_>, left: usize) -> Read<'_, Fit<TypeExpr>>
+    ensures { ParsesAs result (pointer_by (type_at left) at tokens.now) }
+{
+    let ((ty, fit), rest) = boxed_type(alloc, tokens, left)?;
+    Ok(((TypeExpr::Pointer { ty, at }, fit), rest))
+}
+
+/// A slice, after its brackets.
+#[cycle(types)]
+fn slice_type(alloc: Global, at: u32, tokens: Tokens<'_>, left: usize) -> Read<'_, Fit<TypeExpr>>
+    ensures { ParsesAs result (slice_by (type_at left) at tokens.now) }
+{
+    let ((ty, fit), rest) = boxed_type(alloc, tokens, left)?;
+    Ok(((TypeExpr::Slice { ty, at }, fit), rest))
+}
+
+/// An array, after its bracket.
+#[cycle(types)]
+fn array_type(alloc: Global, at: u32, tokens: Tokens<'_>, left: usize) -> Read<'_, Fit<TypeExpr>>
+    ensures { ParsesAs result (array_by left (type_at left) at tokens.now) }
+{
+    let ((length, spare), rest) = expression(alloc, tokens, 5, left)?;
+    let length = Boxed::new(alloc, length.expr)?;
+    let rest = past(Kind::CloseBracket, rest)?;
+    let ((ty, fit), rest) = boxed_type(alloc, rest, left)?;
+    Ok(((TypeExpr::Array { length, ty, at }, spare.min(fit)), rest))
 }
 
 /// A slice or an array, after its bracket.
@@ -227,16 +279,9 @@ fn bracketed(alloc: Global, at: u32, tokens: Tokens<'_>, left: usize) -> Read<'_
     ensures { ParsesAs result (bracket_by left (type_at left) at tokens.now) }
 {
     if let Ok(rest) = past(Kind::CloseBracket, tokens) {
-        let ((ty, fit), rest) = type_expr(alloc, rest, left)?;
-        let ty = Boxed::new(alloc, ty)?;
-        return Ok(((TypeExpr::Slice { ty, at }, fit), rest));
+        return slice_type(alloc, at, rest, left);
     }
-    let ((length, spare), rest) = expression(alloc, tokens, 5, left)?;
-    let rest = past(Kind::CloseBracket, rest)?;
-    let ((ty, fit), rest) = type_expr(alloc, rest, left)?;
-    let length = Boxed::new(alloc, length.expr)?;
-    let ty = Boxed::new(alloc, ty)?;
-    Ok(((TypeExpr::Array { length, ty, at }, spare.min(fit)), rest))
+    array_type(alloc, at, tokens, left)
 }
 
 /// A map type, after its keyword.
@@ -245,11 +290,9 @@ fn map_type(alloc: Global, at: u32, tokens: Tokens<'_>, left: usize) -> Read<'_,
     ensures { ParsesAs result (map_by (type_at left) at tokens.now) }
 {
     let rest = past(Kind::OpenBracket, tokens)?;
-    let ((key, fit), rest) = type_expr(alloc, rest, left)?;
+    let ((key, fit), rest) = boxed_type(alloc, rest, left)?;
     let rest = past(Kind::CloseBracket, rest)?;
-    let ((ty, inside), rest) = type_expr(alloc, rest, left)?;
-    let key = Boxed::new(alloc, key)?;
-    let ty = Boxed::new(alloc, ty)?;
+    let ((ty, inside), rest) = boxed_type(alloc, rest, left)?;
     Ok(((TypeExpr::MapOf { key, ty, at }, fit.min(inside)), rest))
 }
 
@@ -265,8 +308,7 @@ fn chan_of(
 ) -> Read<'_, Fit<TypeExpr>>
     ensures { ParsesAs result (chan_of (type_at left) receive send at tokens.now) }
 {
-    let ((ty, fit), rest) = type_expr(alloc, tokens, left)?;
-    let ty = Boxed::new(alloc, ty)?;
+    let ((ty, fit), rest) = boxed_type(alloc, tokens, left)?;
     let chan = TypeExpr::Chan {
         receive,
         send,
@@ -316,11 +358,7 @@ fn type_inside(alloc: Global, tokens: Tokens<'_>, left: usize) -> Read<'_, Fit<T
     match *first {
         Symbol::Ident(name) => named_type(alloc, name, rest, left),
         Symbol::OpenParen(at) => paren_type(alloc, at, rest, left),
-        Symbol::Star(at) => {
-            let ((ty, fit), rest) = type_expr(alloc, rest, left)?;
-            let ty = Boxed::new(alloc, ty)?;
-            Ok(((TypeExpr::Pointer { ty, at }, fit), rest))
-        }
+        Symbol::Star(at) => pointer_type(alloc, at, rest, left),
         Symbol::OpenBracket(at) => bracketed(alloc, at, rest, left),
         Symbol::Map(at) => map_type(alloc, at, rest, left),
         Symbol::Chan(at) => chan_type(alloc, at, rest, left),

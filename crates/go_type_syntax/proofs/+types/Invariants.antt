@@ -23,6 +23,21 @@ decreases-elements::after_type l = 18 * l.left + 4
 abbrev pub decreases-types::chan_type : goal.decreases-types::chan_type
 decreases-types::chan_type l = 18 * l.left + 15
 
+abbrev pub decreases-types::boxed_type : goal.decreases-types::boxed_type
+decreases-types::boxed_type l = 18 * l.left + 1
+
+abbrev pub decreases-types::pointer_type : goal.decreases-types::pointer_type
+decreases-types::pointer_type l = 18 * l.left + 2
+
+abbrev pub decreases-types::slice_type : goal.decreases-types::slice_type
+decreases-types::slice_type l = 18 * l.left + 2
+
+abbrev pub decreases-types::array_type : goal.decreases-types::array_type
+decreases-types::array_type l = 18 * l.left + 2
+
+abbrev pub decreases-types::chan_of : goal.decreases-types::chan_of
+decreases-types::chan_of l = 18 * l.left + 2
+
 abbrev pub decreases-elements::elems : goal.decreases-elements::elems
 decreases-elements::elems l = 18 * l.left + 15
 
