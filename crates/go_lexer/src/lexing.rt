@@ -5,12 +5,16 @@ ghost use Rattle.go_lexer.specs.Lexing.{finish, with_front, lexed_text, lexed_so
 ghost use Rattle.go_lexer.specs.TokenGrammar.{IsLexed, IsFirstFault};
 ghost use Rattle.go_lexer.specs.declared.token_kinds.Token.{Token};
 ghost use Rattle.go_lexer.specs.declared.token_kinds.LexFault.{LexFault};
+ghost use Rattle.go_lexer.specs.declared.lexing.TheConstants.{SOURCE_LIMIT};
 
 use crate::fronts::read_piece;
 use crate::pieces::{Breach, Piece};
 use crate::source::{Ending, after_mark, read_source};
 use crate::token_kinds::{LexFault, Token, TokenKind};
 use std::alloc::{AllocError, AllocFailed, Global};
+
+/// The most bytes of a source.
+pub const SOURCE_LIMIT: usize = 4 * 1024 * 1024;
 
 impl<T: Drop> From<AllocFailed<T>> for LexFault {
     ghost use Rattle.go_lexer.specs.declared.token_kinds.LexFault.TheVariants.{OutOfMemory};
@@ -166,7 +170,7 @@ fn lex_text(alloc: Global, text: &str, ending: Ending, total: u32) -> Result<Vec
 
 #[tactic(auto, unfolding(crate::specs::Lexing::lexed_source))]
 fn read_tokens(alloc: Global, src: &[u8]) -> Result<Vec<Token>, LexFault>
-    requires { length src.now ≤ 4194304 }
+    requires { length src.now ≤ SOURCE_LIMIT }
     ensures { LexesAs (λ v. v.items) result (lexed_source src.now) }
 {
     let (text, ending) = read_source(src);
@@ -177,7 +181,7 @@ fn read_tokens(alloc: Global, src: &[u8]) -> Result<Vec<Token>, LexFault>
 /// fault that a reader meets from left to right. Takes time in proportion to the length of the source, and
 /// memory for the tokens alone.
 pub fn tokens(alloc: Global, src: &[u8]) -> Result<Vec<Token>, LexFault>
-    requires { length src.now ≤ 4194304 }
+    requires { length src.now ≤ SOURCE_LIMIT }
     // What is found is spelled there, and what is spelled there is found, unless memory runs out.
     ensures found { IfOk result (λ found. IsLexed src.now found.items) }
     ensures only { (items : List Token) → IsLexed src.now items → LexesAs (λ found. found.items) result (Ok items) }

@@ -15,6 +15,6 @@ mod source;
 mod token_kinds;
 mod words;
 
-pub use lexing::{one_reading, tokens};
+pub use lexing::{SOURCE_LIMIT, one_reading, tokens};
 pub use numbers::number_literals;
 pub use token_kinds::{LexFault, Token, TokenKind};

@@ -1,25 +1,25 @@
 -- Constants that are written are read again.
-use Rattle.go_syntax.specs.declared.expressions.Operand.{Operand}
+use Rattle.go_expr_syntax.specs.declared.expressions.Operand.{Operand}
 use Rattle.std.proofs.Common.{◌≡◌, ℕ, ◌-◌, max, Bool, true, false, List, [], ◌∷◌, Some, None, Ok, refl, arith}
-use Rattle.go_syntax.specs.declared.symbols.Symbol.{Symbol}
-use Rattle.go_syntax.specs.declared.symbols.Symbol.TheVariants as t
-use Rattle.go_syntax.specs.declared.symbols.Ident.{Ident}
+use Rattle.go_expr_syntax.specs.declared.symbols.Symbol.{Symbol}
+use Rattle.go_expr_syntax.specs.declared.symbols.Symbol.TheVariants as t
+use Rattle.go_expr_syntax.specs.declared.symbols.Ident.{Ident}
 use Rattle.go_syntax.specs.declared.constants.Written.{Written}
-use Rattle.go_syntax.specs.declared.tree.Expr.{Expr}
-use Rattle.go_syntax.specs.declared.tree.TypeExpr.{TypeExpr}
-use Rattle.go_syntax.specs.Reading.{peek, starts, begins_type, is_comma, is_assign, is_open_paren, is_close_paren, start_of}
-use Rattle.go_syntax.specs.Names as names_of
-use Rattle.go_syntax.specs.Names.{IsNames}
-use Rattle.go_syntax.specs.Operands.{expr_at, outer_expr}
-use Rattle.go_syntax.specs.Grammar.{IsType}
-use Rattle.go_syntax.specs.Types.{type_at}
+use Rattle.go_expr_syntax.specs.declared.tree.Expr.{Expr}
+use Rattle.go_type_syntax.specs.declared.tree.TypeExpr.{TypeExpr}
+use Rattle.go_expr_syntax.specs.Reading.{peek, starts, begins_type, is_comma, is_assign, is_open_paren, is_close_paren, start_of}
+use Rattle.go_expr_syntax.specs.Names as names_of
+use Rattle.go_expr_syntax.specs.Names.{IsNames}
+use Rattle.go_expr_syntax.specs.Operands.{expr_at, outer_expr}
+use Rattle.go_type_syntax.specs.Grammar.{IsType}
+use Rattle.go_type_syntax.specs.Types.{type_at}
 use Rattle.go_syntax.specs.Constants as c
 use Rattle.go_syntax.specs.Constants.{written, IsExprs, IsConstSpec, exprs_more, exprs_end, exprs_step, exprs_at, const_values, const_assign, const_typed, const_empty, const_rest, const_more, const_spec_at}
-use Rattle.go_syntax.proofs.Steps.{steps_is}
-use Rattle.go_syntax.proofs.Agreeing.{Agrees, agrees_bind, sized, choose_other, names_again, told_again}
-use Rattle.go_syntax.proofs.ExprAgain.{continues, next_level, Closed, expr_again}
-use Rattle.go_syntax.proofs.Follows.{next_so, no_comma, type_begins}
-use Rattle.go_syntax.proofs.TypeAgain.{type_again}
+use Rattle.go_expr_syntax.proofs.Steps.{steps_is}
+use Rattle.go_expr_syntax.proofs.Agreeing.{Agrees, agrees_bind, sized, choose_other, names_again, told_again}
+use Rattle.go_expr_syntax.proofs.ExprAgain.{continues, next_level, Closed, expr_again}
+use Rattle.go_type_syntax.proofs.Follows.{next_so, no_comma, type_begins}
+use Rattle.go_type_syntax.proofs.TypeAgain.{type_again}
 use Rattle.go_syntax.proofs.ConstReads.{exprs_local}
 
 -- ---- what comes next

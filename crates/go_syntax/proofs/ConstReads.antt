@@ -1,26 +1,26 @@
 -- What the readers of constants do.
 use Rattle.std.proofs.Common.{◌≡◌, ℕ, max, ◌<◌, ◌≤◌, List, [], ◌∷◌, length, Some, None, Ok, refl, sym, ap, subst, arith}
-use Rattle.go_syntax.specs.declared.symbols.Symbol.{Symbol}
-use Rattle.go_syntax.specs.declared.symbols.Symbol.TheVariants as t
-use Rattle.go_syntax.specs.declared.symbols.Ident.{Ident}
+use Rattle.go_expr_syntax.specs.declared.symbols.Symbol.{Symbol}
+use Rattle.go_expr_syntax.specs.declared.symbols.Symbol.TheVariants as t
+use Rattle.go_expr_syntax.specs.declared.symbols.Ident.{Ident}
 use Rattle.go_syntax.specs.declared.constants.Written.{Written}
-use Rattle.go_syntax.specs.declared.tree.Expr.{Expr}
-use Rattle.go_syntax.specs.Reading.{Reply, ◌>>=◌, peek, begins_type, is_comma, is_assign}
-use Rattle.go_syntax.specs.Names.{plain, IsNames, one, more, ident_at, names_at}
-use Rattle.go_syntax.specs.Expressions.{constant}
-use Rattle.go_syntax.specs.Operands.{expr_at, outer_expr}
-use Rattle.go_syntax.specs.Types.{type_at}
+use Rattle.go_expr_syntax.specs.declared.tree.Expr.{Expr}
+use Rattle.go_expr_syntax.specs.Reading.{Reply, ◌>>=◌, peek, begins_type, is_comma, is_assign}
+use Rattle.go_expr_syntax.specs.Names.{plain, IsNames, one, more, ident_at, names_at}
+use Rattle.go_expr_syntax.specs.Expressions.{constant}
+use Rattle.go_expr_syntax.specs.Operands.{expr_at, outer_expr}
+use Rattle.go_type_syntax.specs.Types.{type_at}
 use Rattle.go_syntax.specs.Constants as c
 use Rattle.go_syntax.specs.Constants.{written, IsExprs, IsConstSpec, exprs_more, exprs_end, exprs_step, exprs_at, const_values, const_assign, const_typed, const_empty, const_rest, const_more, const_first, const_spec_at}
-use Rattle.go_syntax.proofs.Viable.{ReadsAt, Behind, Past, After, done_reads, like_reads, as_reads, past_reads, choose_reads_on, choose_reads, peek_reads, bind_reads, value_reads, from_start_reads}
-use Rattle.go_syntax.proofs.Marks.{comma, assign}
-use Rattle.go_syntax.proofs.NameReads.{IsIdent, any_ident, ident_reads, names_reads, no_names, through_value}
-use Rattle.go_syntax.proofs.OperandReads.{ExprAt, alone_up}
-use Rattle.go_syntax.proofs.ExprReads.{expr_reads}
-use Rattle.go_syntax.proofs.Standing.{TypeAt}
-use Rattle.go_syntax.proofs.TypeReads.{type_reads}
-use Rattle.go_syntax.proofs.Rows.{Eats, eats_of, bind_same, choose_same}
-use Rattle.go_syntax.proofs.Steps.{Local, steps_read}
+use Rattle.go_expr_syntax.proofs.Viable.{ReadsAt, Behind, Past, After, done_reads, like_reads, as_reads, past_reads, choose_reads_on, choose_reads, peek_reads, bind_reads, value_reads, from_start_reads}
+use Rattle.go_expr_syntax.proofs.Marks.{comma, assign}
+use Rattle.go_expr_syntax.proofs.NameReads.{IsIdent, any_ident, ident_reads, names_reads, no_names, through_value}
+use Rattle.go_expr_syntax.proofs.OperandReads.{ExprAt, alone_up}
+use Rattle.go_expr_syntax.proofs.ExprReads.{expr_reads}
+use Rattle.go_type_syntax.proofs.Standing.{TypeAt}
+use Rattle.go_type_syntax.proofs.TypeReads.{type_reads}
+use Rattle.go_expr_syntax.proofs.Rows.{Eats, eats_of, bind_same, choose_same}
+use Rattle.go_expr_syntax.proofs.Steps.{Local, steps_read}
 use Rattle.go_syntax.proofs.Groups.{Any, no_longer}
 
 -- ---- lists of expressions

@@ -1,22 +1,22 @@
 -- The turns of the loops that read constants.
 use Rattle.std.proofs.Common.{◌≡◌, ℕ, suc, ◌<◌, List, [], ◌∷◌, ◌++◌, length, Ok, Err, refl, sym, ap, ◌∙◌, append_assoc, length-append, arith}
 use Rattle.std.proofs.lemmas.List.{append-nil}
-use Rattle.go_syntax.specs.declared.symbols.Symbol.{Symbol}
+use Rattle.go_expr_syntax.specs.declared.symbols.Symbol.{Symbol}
 use Rattle.go_syntax.specs.declared.constants.Written.{Written}
-use Rattle.go_syntax.specs.declared.expressions.Operand.{Operand}
-use Rattle.go_syntax.specs.declared.tree.Expr.{Expr}
+use Rattle.go_expr_syntax.specs.declared.expressions.Operand.{Operand}
+use Rattle.go_expr_syntax.specs.declared.tree.Expr.{Expr}
 use Rattle.go_syntax.specs.declared.tree.Top.{Top}
-use Rattle.go_syntax.specs.declared.faults.Fault.{Fault}
-use Rattle.go_syntax.specs.declared.faults.Stop.{Stop}
-use Rattle.go_syntax.specs.declared.faults.Stop.TheVariants as stop
-use Rattle.go_syntax.specs.Reading.{Reply, ◌>>=◌, past, is_comma, is_semicolon, is_close_paren, series_by, rows, row, Fails}
-use Rattle.go_syntax.specs.Operands.{outer_expr}
+use Rattle.go_expr_syntax.specs.declared.faults.Fault.{Fault}
+use Rattle.go_expr_syntax.specs.declared.faults.Stop.{Stop}
+use Rattle.go_expr_syntax.specs.declared.faults.Stop.TheVariants as stop
+use Rattle.go_expr_syntax.specs.Reading.{Reply, ◌>>=◌, past, is_comma, is_semicolon, is_close_paren, series_by, rows, row, Fails}
+use Rattle.go_expr_syntax.specs.Operands.{outer_expr}
 use Rattle.go_syntax.specs.Constants.{source_of, constants, exprs_step, exprs_at, const_spec_at}
 use Rattle.go_syntax.specs.Files.{counting}
-use Rattle.go_syntax.proofs.Rows.{Eats, eats_of, row_is, past_shorter}
-use Rattle.go_syntax.proofs.Steps.{steps_is}
-use Rattle.go_syntax.proofs.Turns.{with_front, regroup}
-use Rattle.go_syntax.proofs.OperandReads.{ExprAt, no_expr_here}
+use Rattle.go_expr_syntax.proofs.Rows.{Eats, eats_of, row_is, past_shorter}
+use Rattle.go_expr_syntax.proofs.Steps.{steps_is}
+use Rattle.go_expr_syntax.proofs.Turns.{with_front, regroup}
+use Rattle.go_expr_syntax.proofs.OperandReads.{ExprAt, no_expr_here}
 use Rattle.go_syntax.proofs.ConstReads.{outer_reads, exprs_local, const_eats}
 
 -- ---- lists of expressions

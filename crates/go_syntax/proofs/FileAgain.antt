@@ -1,30 +1,31 @@
 -- A file that is written is read again.
 use Rattle.std.proofs.Common.{◌≡◌, ◌≤◌, ℕ, max, true, false, List, [], ◌∷◌, ◌++◌, Some, None, Ok, refl, arith}
-use Rattle.go_syntax.specs.declared.symbols.Symbol.{Symbol}
-use Rattle.go_syntax.specs.declared.symbols.Symbol.TheVariants as t
-use Rattle.go_syntax.specs.declared.symbols.Ident.{Ident}
+use Rattle.go_expr_syntax.specs.declared.symbols.Symbol.{Symbol}
+use Rattle.go_expr_syntax.specs.declared.symbols.Symbol.TheVariants as t
+use Rattle.go_expr_syntax.specs.declared.symbols.Ident.{Ident}
 use Rattle.go_syntax.specs.declared.tree.Import.{Import}
 use Rattle.go_syntax.specs.declared.tree.Top.{Top}
 use Rattle.go_syntax.specs.declared.tree.Top.TheVariants as top
 use Rattle.go_syntax.specs.declared.tree.FuncDecl.{FuncDecl}
 use Rattle.go_syntax.specs.declared.tree.TParam.{TParam}
-use Rattle.go_syntax.specs.declared.tree.TypeExpr.{TypeExpr}
+use Rattle.go_type_syntax.specs.declared.tree.TypeExpr.{TypeExpr}
 use Rattle.go_syntax.specs.declared.tree.SourceFile.{SourceFile}
-use Rattle.go_syntax.specs.Reading.{Reply, starts, begins_type, is_comma, is_assign, is_open_paren, is_close_paren, is_import, is_var, is_type, is_const, is_func, row}
-use Rattle.go_syntax.specs.Names as names_of
-use Rattle.go_syntax.specs.Names.{IsNames}
-use Rattle.go_syntax.specs.Grammar.{IsType}
-use Rattle.go_syntax.specs.Types.{type_at}
+use Rattle.go_expr_syntax.specs.Reading.{Reply, starts, begins_type, is_comma, is_assign, is_open_paren, is_close_paren, is_import, is_var, is_type, is_const, is_func, row}
+use Rattle.go_expr_syntax.specs.Names as names_of
+use Rattle.go_expr_syntax.specs.Names.{IsNames}
+use Rattle.go_type_syntax.specs.Grammar.{IsType}
+use Rattle.go_type_syntax.specs.Types.{type_at}
 use Rattle.go_syntax.specs.declared.constants.Written.{Written}
 use Rattle.go_syntax.specs.Constants.{IsConstSpec, counted, const_spec_at}
-use Rattle.go_syntax.specs.Generics.{IsTParams, shows_length, tparams_at}
+use Rattle.go_syntax.specs.Generics.{IsTParams, tparams_at}
+use Rattle.go_expr_syntax.specs.Reading.{shows_length}
 use Rattle.go_syntax.specs.Skipped.{IsSkipped, skip}
 use Rattle.go_syntax.specs.Functions.{IsFunc, func_at}
 use Rattle.go_syntax.specs.Decls as d
 use Rattle.go_syntax.specs.Decls.{vars, defined, alias, source_file, IsImport, IsValue, IsVarSpec, IsTypeSpec, IsBlock, IsGroup, IsImports, IsTops, IsFileOf}
 use Rattle.go_syntax.specs.Files.{import_at, value_by, value_at, vars_typed, vars_rest, vars_more, var_spec_at, alias_by, defined_by, declared_by, type_first, type_spec_at, single_at, group_at, const_group_at, func_group_at, decl_end, decl_at, import_step, top_step, imports_at, tops_at, file_tops, file_imports, file_front}
-use Rattle.go_syntax.proofs.Rows.{Eats, eats_of}
-use Rattle.go_syntax.proofs.Steps.{steps_is}
+use Rattle.go_expr_syntax.proofs.Rows.{Eats, eats_of}
+use Rattle.go_expr_syntax.proofs.Steps.{steps_is}
 use Rattle.go_syntax.proofs.Groups.{Any}
 use Rattle.go_syntax.proofs.ConstReads.{no_const, const_reads}
 use Rattle.go_syntax.proofs.ConstAgain.{ends_spec, Ended, names_not_open, names_not_close, const_not_open, const_not_close, const_again}
@@ -32,9 +33,9 @@ use Rattle.go_syntax.proofs.SkipReads.{skip_again}
 use Rattle.go_syntax.proofs.FuncAgain.{func_again}
 use Rattle.go_syntax.proofs.GenericAgain.{agrees_more, some_again, type_opens_none, name_opens}
 use Rattle.go_syntax.proofs.FileReads.{import_reads, no_import_here, var_reads, no_var, spec_reads, no_spec, import_local, top_local}
-use Rattle.go_syntax.proofs.Agreeing.{Agrees, agrees_bind, agrees_from, sized, choose_other, names_again, row_none, row_last, row_more}
-use Rattle.go_syntax.proofs.Follows.{goes_on, Free, next_so, no_comma, type_begins}
-use Rattle.go_syntax.proofs.TypeAgain.{type_again}
+use Rattle.go_expr_syntax.proofs.Agreeing.{Agrees, agrees_bind, agrees_from, sized, choose_other, names_again, row_none, row_last, row_more}
+use Rattle.go_type_syntax.proofs.Follows.{goes_on, Free, next_so, no_comma, type_begins}
+use Rattle.go_type_syntax.proofs.TypeAgain.{type_again}
 
 -- ---- specifications
 

@@ -1,18 +1,18 @@
 -- What the readers of declarations and files do.
 use Rattle.std.proofs.Common.{◌≡◌, ℕ, max, ◌<◌, ◌≤◌, true, List, [], ◌∷◌, length, Some, None, Ok, refl, sym, subst, arith}
 use Rattle.go_lexer.specs.declared.token_kinds.TokenKind.TheVariants as kind
-use Rattle.go_syntax.specs.declared.symbols.Symbol.{Symbol}
-use Rattle.go_syntax.specs.declared.symbols.Symbol.TheVariants as t
-use Rattle.go_syntax.specs.declared.symbols.Ident.{Ident}
-use Rattle.go_syntax.specs.declared.faults.Fault.TheVariants.{DotImport}
+use Rattle.go_expr_syntax.specs.declared.symbols.Symbol.{Symbol}
+use Rattle.go_expr_syntax.specs.declared.symbols.Symbol.TheVariants as t
+use Rattle.go_expr_syntax.specs.declared.symbols.Ident.{Ident}
+use Rattle.go_expr_syntax.specs.declared.faults.Fault.TheVariants.{DotImport}
 use Rattle.go_syntax.specs.declared.tree.Import.{Import}
 use Rattle.go_syntax.specs.declared.tree.Top.{Top}
 use Rattle.go_syntax.specs.declared.tree.Top.TheVariants as top
 use Rattle.go_syntax.specs.declared.tree.FuncDecl.{FuncDecl}
 use Rattle.go_syntax.specs.declared.tree.SourceFile.{SourceFile}
-use Rattle.go_syntax.specs.Reading.{Quoted, Reply, ◌>>=◌, past, choose, is_package, is_semicolon, is_comma, is_assign, is_import, is_var, is_type, is_const, is_func}
-use Rattle.go_syntax.specs.Names.{IsNames, one, more, ident_at, names_at}
-use Rattle.go_syntax.specs.Types.{type_at}
+use Rattle.go_expr_syntax.specs.Reading.{Quoted, Reply, ◌>>=◌, past, choose, is_package, is_semicolon, is_comma, is_assign, is_import, is_var, is_type, is_const, is_func}
+use Rattle.go_expr_syntax.specs.Names.{IsNames, one, more, ident_at, names_at}
+use Rattle.go_type_syntax.specs.Types.{type_at}
 use Rattle.go_syntax.specs.Skipped.{IsSkipped, skip}
 use Rattle.go_syntax.specs.Functions.{func_at}
 use Rattle.go_syntax.specs.declared.constants.Written.{Written}
@@ -20,17 +20,17 @@ use Rattle.go_syntax.specs.Constants.{IsConstSpec, counted, const_spec_at}
 use Rattle.go_syntax.specs.Decls as d
 use Rattle.go_syntax.specs.Decls.{import, vars, defined, source_file, IsImport, IsValue, IsVarSpec, IsTypeSpec, IsGroup, IsImports, IsTops, IsFileOf}
 use Rattle.go_syntax.specs.Files.{text_at, named_import, dot_import, import_at, value_by, value_at, vars_typed, vars_rest, vars_more, vars_first, var_spec_at, type_first, type_spec_at, group_at, const_group_at, func_group_at, decl_at, import_step, top_step, imports_at, tops_at, file_tops, file_imports, file_clause, file_name, file_front}
-use Rattle.go_syntax.proofs.Viable.{next_is, ReadsAt, Sample, Behind, Past, After, done_reads, refuse_reads, refuse_next, refuse_end, like_reads, as_reads, cons_reads, past_reads, choose_reads_on, choose_reads, bind_reads, value_reads}
-use Rattle.go_syntax.proofs.Marks.{semicolon, comma, assign, import_word, var_word, type_word, const_word, func_word, package_word}
-use Rattle.go_syntax.proofs.NameReads.{IsIdent, any_ident, ident_reads, names_reads, no_names, through_value}
-use Rattle.go_syntax.proofs.Standing.{TypeAt, some_type}
-use Rattle.go_syntax.proofs.TypeReads.{type_reads}
+use Rattle.go_expr_syntax.proofs.Viable.{next_is, ReadsAt, Sample, Behind, Past, After, done_reads, refuse_reads, refuse_next, refuse_end, like_reads, as_reads, cons_reads, past_reads, choose_reads_on, choose_reads, bind_reads, value_reads}
+use Rattle.go_expr_syntax.proofs.Marks.{semicolon, comma, assign, import_word, var_word, type_word, const_word, func_word, package_word}
+use Rattle.go_expr_syntax.proofs.NameReads.{IsIdent, any_ident, ident_reads, names_reads, no_names, through_value}
+use Rattle.go_type_syntax.proofs.Standing.{TypeAt, some_type}
+use Rattle.go_type_syntax.proofs.TypeReads.{type_reads}
 use Rattle.go_syntax.proofs.ConstReads.{no_const, const_reads}
 use Rattle.go_syntax.proofs.SkipReads.{SkippedAt, skip_reads}
 use Rattle.go_syntax.proofs.FuncReads.{FuncAt, func_reads}
 use Rattle.go_syntax.proofs.GenericReads.{type_first_reads}
-use Rattle.go_syntax.proofs.Rows.{Eats, eats_of, choose_same}
-use Rattle.go_syntax.proofs.Steps.{Local, steps_read}
+use Rattle.go_expr_syntax.proofs.Rows.{Eats, eats_of, choose_same}
+use Rattle.go_expr_syntax.proofs.Steps.{Local, steps_read}
 use Rattle.go_syntax.proofs.Groups.{Any, group_reads, decl_same, decl_reads}
 
 -- ---- imports

@@ -1,27 +1,27 @@
 -- A declaration of a function that is written is read again.
 use Rattle.std.proofs.Common.{arith, max, ◌≡◌, ℕ, Bool, true, false, List, [], ◌∷◌, Option, Some, None, Ok, refl, sym, ap, ◌∙◌}
-use Rattle.go_syntax.specs.declared.symbols.Symbol.{Symbol}
-use Rattle.go_syntax.specs.declared.symbols.Symbol.TheVariants as t
-use Rattle.go_syntax.specs.declared.symbols.Ident.{Ident}
+use Rattle.go_expr_syntax.specs.declared.symbols.Symbol.{Symbol}
+use Rattle.go_expr_syntax.specs.declared.symbols.Symbol.TheVariants as t
+use Rattle.go_expr_syntax.specs.declared.symbols.Ident.{Ident}
 use Rattle.go_syntax.specs.declared.tree.Receiver.{Receiver}
 use Rattle.go_syntax.specs.declared.tree.FuncDecl.{FuncDecl}
-use Rattle.go_syntax.specs.declared.tree.SigExpr.{SigExpr}
+use Rattle.go_type_syntax.specs.declared.tree.SigExpr.{SigExpr}
 use Rattle.go_syntax.specs.declared.tree.TParam.{TParam}
-use Rattle.go_syntax.specs.Reading.{Reply, ◌>>=◌, starts, is_open_paren, is_open_bracket, is_open_brace, series}
-use Rattle.go_syntax.specs.Names.{ident_at}
-use Rattle.go_syntax.specs.Grammar.{IsSig}
-use Rattle.go_syntax.specs.Params.{sig_at}
-use Rattle.go_syntax.specs.Types.{type_at}
+use Rattle.go_expr_syntax.specs.Reading.{Reply, ◌>>=◌, starts, is_open_paren, is_open_bracket, is_open_brace, series}
+use Rattle.go_expr_syntax.specs.Names.{ident_at}
+use Rattle.go_type_syntax.specs.Grammar.{IsSig}
+use Rattle.go_type_syntax.specs.Params.{sig_at}
+use Rattle.go_type_syntax.specs.Types.{type_at}
 use Rattle.go_syntax.specs.Functions as f
 use Rattle.go_syntax.specs.Functions.{receiver, function, IsIdents, IsArgs, IsReceiverEnd, IsReceiver, IsBody, IsFunc, idents, idents_at, args_at, receiver_end, receiver_base, receiver_at, body_close, body_by, body_at, func_sig, func_at}
-use Rattle.go_syntax.proofs.Rows.{series_is}
-use Rattle.go_syntax.proofs.Agreeing.{Agrees, agrees_bind, agrees_from, sized, choose_other, series_opens}
+use Rattle.go_expr_syntax.proofs.Rows.{series_is}
+use Rattle.go_expr_syntax.proofs.Agreeing.{Agrees, agrees_bind, agrees_from, sized, choose_other, series_opens}
 use Rattle.go_syntax.specs.Generics.{generic_at}
-use Rattle.go_syntax.proofs.Follows.{Free, next_so, sig_opens}
+use Rattle.go_type_syntax.proofs.Follows.{Free, next_so, sig_opens}
 use Rattle.go_syntax.proofs.GenericAgain.{agrees_more, generic_again}
 use Rattle.go_syntax.proofs.FuncReads.{ident_eats}
 use Rattle.go_syntax.proofs.SkipReads.{skip_again}
-use Rattle.go_syntax.proofs.TypeAgain.{sig_again}
+use Rattle.go_type_syntax.proofs.TypeAgain.{sig_again}
 
 -- ---- receivers
 

@@ -1,29 +1,29 @@
 -- What the readers of declarations of functions do.
 use Rattle.std.proofs.Common.{◌≡◌, ℕ, max, Bool, true, false, List, [], ◌∷◌, ◌++◌, Option, Some, None, Ok, refl, sym, subst}
-use Rattle.go_syntax.specs.declared.symbols.Symbol.{Symbol}
-use Rattle.go_syntax.specs.declared.symbols.Symbol.TheVariants as t
-use Rattle.go_syntax.specs.declared.symbols.Ident.{Ident}
+use Rattle.go_expr_syntax.specs.declared.symbols.Symbol.{Symbol}
+use Rattle.go_expr_syntax.specs.declared.symbols.Symbol.TheVariants as t
+use Rattle.go_expr_syntax.specs.declared.symbols.Ident.{Ident}
 use Rattle.go_syntax.specs.declared.tree.Receiver.{Receiver}
 use Rattle.go_syntax.specs.declared.tree.FuncDecl.{FuncDecl}
-use Rattle.go_syntax.specs.declared.tree.SigExpr.{SigExpr}
+use Rattle.go_type_syntax.specs.declared.tree.SigExpr.{SigExpr}
 use Rattle.go_syntax.specs.declared.tree.TParam.{TParam}
-use Rattle.go_syntax.specs.Reading.{◌>>=◌, starts, is_comma, is_close_paren, is_open_paren, is_open_bracket, is_close_bracket, is_open_brace, is_close_brace, is_star, series_end, series}
-use Rattle.go_syntax.specs.Names.{ident_at}
-use Rattle.go_syntax.specs.Grammar.{IsSig}
-use Rattle.go_syntax.specs.Params.{sig_at}
-use Rattle.go_syntax.specs.Types.{type_at}
+use Rattle.go_expr_syntax.specs.Reading.{◌>>=◌, starts, is_comma, is_close_paren, is_open_paren, is_open_bracket, is_close_bracket, is_open_brace, is_close_brace, is_star, series_end, series}
+use Rattle.go_expr_syntax.specs.Names.{ident_at}
+use Rattle.go_type_syntax.specs.Grammar.{IsSig}
+use Rattle.go_type_syntax.specs.Params.{sig_at}
+use Rattle.go_type_syntax.specs.Types.{type_at}
 use Rattle.go_syntax.specs.Skipped.{skip}
 use Rattle.go_syntax.specs.Generics as g
 use Rattle.go_syntax.specs.Generics.{generic_at}
 use Rattle.go_syntax.specs.Functions as f
 use Rattle.go_syntax.specs.Functions.{receiver, function, IsIdents, IsArgs, IsReceiverEnd, IsReceiver, IsBody, IsFunc, idents, idents_at, args_at, receiver_close, receiver_end, receiver_base, receiver_pointer, receiver_first, receiver_at, body_close, body_by, body_at, func_sig, method_name, method_by, func_generic, func_name, func_at}
-use Rattle.go_syntax.proofs.Viable.{next_is, ends_so, ReadsAt, Sample, Behind, Past, After, done_reads, like_reads, as_reads, cons_reads, past_reads, choose_reads, bind_reads}
-use Rattle.go_syntax.proofs.Marks.{comma, close_paren, open_paren, open_bracket, close_bracket, open_brace, close_brace, star}
-use Rattle.go_syntax.proofs.NameReads.{IsIdent, any_ident, ident_reads}
-use Rattle.go_syntax.proofs.Standing.{SigAt}
-use Rattle.go_syntax.proofs.ParamReads.{some_sig, sig_reads}
-use Rattle.go_syntax.proofs.TypeReads.{type_begun, type_reads}
-use Rattle.go_syntax.proofs.Rows.{IsSeries, series_reads, end_reads, Eats, eats_of}
+use Rattle.go_expr_syntax.proofs.Viable.{next_is, ends_so, ReadsAt, Sample, Behind, Past, After, done_reads, like_reads, as_reads, cons_reads, past_reads, choose_reads, bind_reads}
+use Rattle.go_expr_syntax.proofs.Marks.{comma, close_paren, open_paren, open_bracket, close_bracket, open_brace, close_brace, star}
+use Rattle.go_expr_syntax.proofs.NameReads.{IsIdent, any_ident, ident_reads}
+use Rattle.go_type_syntax.proofs.Standing.{SigAt}
+use Rattle.go_type_syntax.proofs.ParamReads.{some_sig, sig_reads}
+use Rattle.go_type_syntax.proofs.TypeReads.{type_begun, type_reads}
+use Rattle.go_expr_syntax.proofs.Rows.{IsSeries, series_reads, end_reads, Eats, eats_of}
 use Rattle.go_syntax.proofs.SkipReads.{SkippedAt, skip_reads}
 use Rattle.go_syntax.proofs.Groups.{Any}
 use Rattle.go_syntax.proofs.GenericReads.{GenericAt, generic_reads}

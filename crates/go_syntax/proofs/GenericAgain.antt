@@ -1,29 +1,30 @@
 -- Type parameters that are written are read again.
 use Rattle.std.proofs.Common.{◌≡◌, ℕ, ◌≤◌, max, true, false, List, [], ◌∷◌, Some, Ok, Err, refl, sym, ◌∙◌, arith}
-use Rattle.go_syntax.specs.declared.symbols.Operator.{Operator}
-use Rattle.go_syntax.specs.declared.symbols.Symbol.{Symbol}
-use Rattle.go_syntax.specs.declared.symbols.Symbol.TheVariants as t
-use Rattle.go_syntax.specs.declared.symbols.Ident.{Ident}
-use Rattle.go_syntax.specs.declared.faults.Fault.TheVariants.{Unexpected, Deep, DotImport, Call}
+use Rattle.go_expr_syntax.specs.declared.symbols.Operator.{Operator}
+use Rattle.go_expr_syntax.specs.declared.symbols.Symbol.{Symbol}
+use Rattle.go_expr_syntax.specs.declared.symbols.Symbol.TheVariants as t
+use Rattle.go_expr_syntax.specs.declared.symbols.Ident.{Ident}
+use Rattle.go_expr_syntax.specs.declared.faults.Fault.TheVariants.{Unexpected, Deep, DotImport, Call}
 use Rattle.go_syntax.specs.declared.tree.TParam.{TParam}
-use Rattle.go_syntax.specs.declared.tree.TypeExpr.{TypeExpr}
-use Rattle.go_syntax.specs.declared.tree.TermExpr.{TermExpr}
-use Rattle.go_syntax.specs.declared.expressions.Operand.{Operand}
-use Rattle.go_syntax.specs.Reading.{Reply, starts, is_ident, is_comma, is_bar, is_open_bracket, is_close_bracket, series, start_of}
-use Rattle.go_syntax.specs.Names as names_of
-use Rattle.go_syntax.specs.Names.{IsNames, own, of_package}
-use Rattle.go_syntax.specs.Expressions as x
-use Rattle.go_syntax.specs.Expressions.{between_of, IsExpr}
-use Rattle.go_syntax.specs.Grammar as g
-use Rattle.go_syntax.specs.Grammar.{IsType, IsTerm, IsUnion}
-use Rattle.go_syntax.specs.Elements.{union_at}
-use Rattle.go_syntax.specs.Types.{type_at, lower_at}
+use Rattle.go_type_syntax.specs.declared.tree.TypeExpr.{TypeExpr}
+use Rattle.go_type_syntax.specs.declared.tree.TermExpr.{TermExpr}
+use Rattle.go_expr_syntax.specs.declared.expressions.Operand.{Operand}
+use Rattle.go_expr_syntax.specs.Reading.{Reply, starts, is_ident, is_comma, is_bar, is_open_bracket, is_close_bracket, series, start_of}
+use Rattle.go_expr_syntax.specs.Names as names_of
+use Rattle.go_expr_syntax.specs.Names.{IsNames, own, of_package}
+use Rattle.go_expr_syntax.specs.Expressions as x
+use Rattle.go_expr_syntax.specs.Expressions.{between_of, IsExpr}
+use Rattle.go_type_syntax.specs.Grammar as g
+use Rattle.go_type_syntax.specs.Grammar.{IsType, IsTerm, IsUnion}
+use Rattle.go_type_syntax.specs.Elements.{union_at}
+use Rattle.go_type_syntax.specs.Types.{type_at, lower_at}
 use Rattle.go_syntax.specs.Generics as q
-use Rattle.go_syntax.specs.Generics.{tparam, IsTParam, IsTParams, IsGeneric, shows_length, opens_params, tparam_type, tparam_more, tparam_at, tparams, tparams_at, generic_at, constraint_at}
-use Rattle.go_syntax.proofs.Rows.{series_is}
-use Rattle.go_syntax.proofs.Agreeing.{Agrees, agrees_bind, agrees_from, sized, choose_other, names_again, series_opens, series_none, series_once, series_twice, told_again}
-use Rattle.go_syntax.proofs.Follows.{Free, no_comma, type_begins}
-use Rattle.go_syntax.proofs.TypeAgain.{union_again}
+use Rattle.go_syntax.specs.Generics.{tparam, IsTParam, IsTParams, IsGeneric, opens_params, tparam_type, tparam_more, tparam_at, tparams, tparams_at, generic_at, constraint_at}
+use Rattle.go_expr_syntax.specs.Reading.{shows_length}
+use Rattle.go_expr_syntax.proofs.Rows.{series_is}
+use Rattle.go_expr_syntax.proofs.Agreeing.{Agrees, agrees_bind, agrees_from, sized, choose_other, names_again, series_opens, series_none, series_once, series_twice, told_again}
+use Rattle.go_type_syntax.proofs.Follows.{Free, no_comma, type_begins}
+use Rattle.go_type_syntax.proofs.TypeAgain.{union_again}
 use Rattle.go_syntax.proofs.GenericReads.{tparam_eats, tparam_no_close}
 
 -- a part that is no deeper doesn't matter

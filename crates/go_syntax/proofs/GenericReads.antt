@@ -1,32 +1,33 @@
 -- What the readers of type parameters do.
 use Rattle.std.proofs.Common.{◌≡◌, ℕ, zero, suc, max, ◌≤◌, Bool, true, false, List, [], ◌∷◌, Ok, refl, sym, subst, ◌∙◌, arith}
-use Rattle.go_syntax.specs.declared.symbols.Symbol.{Symbol}
-use Rattle.go_syntax.specs.declared.symbols.Symbol.TheVariants as t
-use Rattle.go_syntax.specs.declared.symbols.Ident.{Ident}
+use Rattle.go_expr_syntax.specs.declared.symbols.Symbol.{Symbol}
+use Rattle.go_expr_syntax.specs.declared.symbols.Symbol.TheVariants as t
+use Rattle.go_expr_syntax.specs.declared.symbols.Ident.{Ident}
 use Rattle.go_syntax.specs.declared.tree.TParam.{TParam}
-use Rattle.go_syntax.specs.declared.tree.TypeExpr.{TypeExpr}
+use Rattle.go_type_syntax.specs.declared.tree.TypeExpr.{TypeExpr}
 use Rattle.go_syntax.specs.declared.tree.Top.{Top}
-use Rattle.go_syntax.specs.Reading.{Reply, ◌>>=◌, starts, is_comma, is_assign, is_open_bracket, is_close_bracket, series_end, series}
-use Rattle.go_syntax.specs.Names.{plain, IsNames, one, more, ident_at, names_at}
-use Rattle.go_syntax.specs.Grammar as g
-use Rattle.go_syntax.specs.Grammar.{named, IsType, IsUnion}
-use Rattle.go_syntax.specs.Elements.{union_at}
-use Rattle.go_syntax.specs.Types.{readers, type_at, lower_at}
-use Rattle.go_syntax.specs.Operands.{expr_of, climb_of}
+use Rattle.go_expr_syntax.specs.Reading.{Reply, ◌>>=◌, starts, is_comma, is_assign, is_open_bracket, is_close_bracket, series_end, series}
+use Rattle.go_expr_syntax.specs.Names.{plain, IsNames, one, more, ident_at, names_at}
+use Rattle.go_type_syntax.specs.Grammar as g
+use Rattle.go_type_syntax.specs.Grammar.{named, IsType, IsUnion}
+use Rattle.go_type_syntax.specs.Elements.{union_at}
+use Rattle.go_type_syntax.specs.Types.{readers, type_at, lower_at}
+use Rattle.go_expr_syntax.specs.Operands.{expr_of, climb_of}
 use Rattle.go_syntax.specs.Generics as q
-use Rattle.go_syntax.specs.Generics.{tparam, IsTParam, IsTParams, IsGeneric, shows_length, tparam_type, tparam_more, tparam_first, tparam_at, tparams, tparams_at, generic_at, constraint_at}
+use Rattle.go_syntax.specs.Generics.{tparam, IsTParam, IsTParams, IsGeneric, tparam_type, tparam_more, tparam_first, tparam_at, tparams, tparams_at, generic_at, constraint_at}
+use Rattle.go_expr_syntax.specs.Reading.{shows_length}
 use Rattle.go_syntax.specs.Decls as d
 use Rattle.go_syntax.specs.Decls.{defined, alias, IsTypeSpec}
 use Rattle.go_syntax.specs.Files.{alias_by, defined_by, declared_by, generic_by, type_first}
-use Rattle.go_syntax.proofs.Viable.{next_is, ends_so, ReadsAt, Behind, Past, After, done_reads, like_reads, as_reads, cons_reads, choose_reads, bind_reads, value_reads, only_reads, starts_same, from_start_reads}
-use Rattle.go_syntax.proofs.Uncons.{uncons_reads}
-use Rattle.go_syntax.proofs.Marks.{comma, assign, open_bracket, close_bracket}
-use Rattle.go_syntax.proofs.NameReads.{IsIdent, any_ident, ident_reads, names_reads, no_names, through_value}
-use Rattle.go_syntax.proofs.Standing.{TypeAt, UnionAt, name_stands, no_type_here}
-use Rattle.go_syntax.proofs.OperandReads.{no_expr_here}
-use Rattle.go_syntax.proofs.ElemReads.{union_reads}
-use Rattle.go_syntax.proofs.TypeReads.{type_reads, lower_reads}
-use Rattle.go_syntax.proofs.Rows.{Eats, eats_of, IsSeries, series_reads, end_reads}
+use Rattle.go_expr_syntax.proofs.Viable.{next_is, ends_so, ReadsAt, Behind, Past, After, done_reads, like_reads, as_reads, cons_reads, choose_reads, bind_reads, value_reads, only_reads, starts_same, from_start_reads}
+use Rattle.go_expr_syntax.proofs.Uncons.{uncons_reads}
+use Rattle.go_expr_syntax.proofs.Marks.{comma, assign, open_bracket, close_bracket}
+use Rattle.go_expr_syntax.proofs.NameReads.{IsIdent, any_ident, ident_reads, names_reads, no_names, through_value}
+use Rattle.go_type_syntax.proofs.Standing.{TypeAt, UnionAt, name_stands, no_type_here}
+use Rattle.go_expr_syntax.proofs.OperandReads.{no_expr_here}
+use Rattle.go_type_syntax.proofs.ElemReads.{union_reads}
+use Rattle.go_type_syntax.proofs.TypeReads.{type_reads, lower_reads}
+use Rattle.go_expr_syntax.proofs.Rows.{Eats, eats_of, IsSeries, series_reads, end_reads}
 use Rattle.go_syntax.proofs.Groups.{Any}
 
 -- ---- one constraint

@@ -1,14 +1,14 @@
 -- Groups of specifications, and a declaration after its keyword.
 use Rattle.std.proofs.Common.{◌≡◌, ℕ, ◌<◌, ◌≤◌, List, [], ◌∷◌, ◌++◌, length, Ok, ap, subst, arith, length-append}
-use Rattle.go_syntax.specs.declared.symbols.Symbol.{Symbol}
-use Rattle.go_syntax.specs.declared.symbols.Symbol.TheVariants as t
-use Rattle.go_syntax.specs.Reading.{Reply, ◌>>=◌, past, is_semicolon, is_open_paren, is_close_paren, row, rows}
+use Rattle.go_expr_syntax.specs.declared.symbols.Symbol.{Symbol}
+use Rattle.go_expr_syntax.specs.declared.symbols.Symbol.TheVariants as t
+use Rattle.go_expr_syntax.specs.Reading.{Reply, ◌>>=◌, past, is_semicolon, is_open_paren, is_close_paren, row, rows}
 use Rattle.go_syntax.specs.Decls as d
 use Rattle.go_syntax.specs.Decls.{IsBlock, IsGroup}
 use Rattle.go_syntax.specs.Files.{single_at, group_at, decl_more, decl_end, decl_at}
-use Rattle.go_syntax.proofs.Viable.{ReadOk, ReadsAt, Past, After, as_reads, choose_reads, past_reads, bind_reads, value_reads}
-use Rattle.go_syntax.proofs.Marks.{semicolon, open_paren, close_paren}
-use Rattle.go_syntax.proofs.Rows.{IsSeries, row_reads, bind_same, past_shorter}
+use Rattle.go_expr_syntax.proofs.Viable.{ReadOk, ReadsAt, Past, After, as_reads, choose_reads, past_reads, bind_reads, value_reads}
+use Rattle.go_expr_syntax.proofs.Marks.{semicolon, open_paren, close_paren}
+use Rattle.go_expr_syntax.proofs.Rows.{IsSeries, row_reads, bind_same, past_shorter}
 
 -- of any number of nodes
 abbrev pub Any : {X : Type 0} → (ℕ → List Symbol → X → List Symbol → Type 0) → List Symbol → X → List Symbol → Type 0

@@ -1,18 +1,18 @@
 -- What a whole reading says of the tokens.
 use Rattle.std.proofs.Common.{◌≡◌, ℕ, ◌<◌, ◌≤◌, List, [], ◌∷◌, ◌++◌, length, Result, Ok, Err, refl, sym, ap, subst, ◌∙◌, append_assoc, arith}
 use Rattle.std.proofs.lemmas.List.{append-nil}
-use Rattle.go_syntax.specs.declared.symbols.Symbol.{Symbol}
+use Rattle.go_expr_syntax.specs.declared.symbols.Symbol.{Symbol}
 use Rattle.go_syntax.specs.declared.tree.SourceFile.{SourceFile}
-use Rattle.go_syntax.specs.declared.faults.Fault.{Fault}
-use Rattle.go_syntax.specs.declared.faults.Fault.TheVariants.{Unexpected, Deep, DotImport, Call}
-use Rattle.go_syntax.specs.Reading.{Reply, ◌>>=◌}
+use Rattle.go_expr_syntax.specs.declared.faults.Fault.{Fault}
+use Rattle.go_expr_syntax.specs.declared.faults.Fault.TheVariants.{Unexpected, Deep, DotImport, Call}
+use Rattle.go_expr_syntax.specs.Reading.{Reply, ◌>>=◌}
 use Rattle.go_syntax.specs.Decls.{IsFileOf}
 use Rattle.go_syntax.specs.Files.{file_front, at_end, file_at}
 use Rattle.go_syntax.specs.Outcomes.{IsFile, BeginsFile, Stops, IsUnexpected, Deepens, IsTooDeep, Explains}
-use Rattle.go_syntax.proofs.Viable.{ReadOk, ReadNot, ReadsAt, ahead}
+use Rattle.go_expr_syntax.proofs.Viable.{ReadOk, ReadNot, ReadsAt, ahead}
 use Rattle.go_syntax.proofs.FileReads.{FileAt, file_reads}
 use Rattle.go_syntax.proofs.FileAgain.{file_again}
-use Rattle.go_syntax.proofs.Agreeing.{Agrees}
+use Rattle.go_expr_syntax.proofs.Agreeing.{Agrees}
 
 again : (n m : ℕ) → 2 ≤ n → (ts : List Symbol) (f : SourceFile) → IsFileOf m ts f [] → Agrees n m f [] (file_front n ts)
 again n m two ts f w = file_again n m two ts f [] w refl (record { no_var_word = refl; no_type_word = refl; no_const_word = refl; no_func_word = refl })

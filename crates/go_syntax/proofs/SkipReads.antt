@@ -1,12 +1,12 @@
 -- What the reader of skipped text does.
 use Rattle.std.proofs.Common.{◌≡◌, Bool, true, false, if◌then◌else◌, List, [], ◌∷◌, ◌++◌, Option, Some, None, Ok, refl, sym, ap, ◌∙◌}
-use Rattle.go_syntax.specs.declared.symbols.Symbol.{Symbol}
-use Rattle.go_syntax.specs.declared.symbols.Symbol.TheVariants as t
+use Rattle.go_expr_syntax.specs.declared.symbols.Symbol.{Symbol}
+use Rattle.go_expr_syntax.specs.declared.symbols.Symbol.TheVariants as t
 use Rattle.go_syntax.specs.declared.skipped.Bracket.{Bracket}
 use Rattle.go_syntax.specs.declared.skipped.Bracket.TheVariants.{Round, Square, Curly}
-use Rattle.go_syntax.specs.Reading.{Reply, unexpected}
+use Rattle.go_expr_syntax.specs.Reading.{Reply, unexpected}
 use Rattle.go_syntax.specs.Skipped.{opened, closed, stands_outside, IsSkipped, nothing, token, within, same, skip_end, skip_close, skip_plain, skip_on, skip}
-use Rattle.go_syntax.proofs.Viable.{ReadsAt, Sample, Behind, next_is, ends_so, done_reads, refuse_next, refuse_end, as_reads, cons_reads}
+use Rattle.go_expr_syntax.proofs.Viable.{ReadsAt, Sample, Behind, next_is, ends_so, done_reads, refuse_next, refuse_end, as_reads, cons_reads}
 
 -- the text, where these brackets are open: each is closed, and then the rest of the text outside it follows
 abbrev pub Closing : Bool → List Bracket → List Symbol → Unit {0} → List Symbol → Type 0

@@ -1,7 +1,7 @@
 -- What a token does inside brackets, where the innermost is listed last.
 use Rattle.std.proofs.Common.{◌≡◌, Bool, List, [], ◌∷◌, reverse, None, refl, sym, ap, ◌∙◌}
 use Rattle.std.proofs.lemmas.List.{reverse-reverse}
-use Rattle.go_syntax.specs.declared.symbols.Symbol.{Symbol}
+use Rattle.go_expr_syntax.specs.declared.symbols.Symbol.{Symbol}
 use Rattle.go_syntax.specs.declared.skipped.Bracket.{Bracket}
 use Rattle.go_syntax.specs.declared.skipped.Step.TheVariants as step
 use Rattle.go_syntax.specs.Skipped.{opened, closed, Steps}

@@ -1,21 +1,21 @@
 -- The turns of the loops that read declarations.
 use Rattle.std.proofs.Common.{◌≡◌, ℕ, ◌<◌, ◌≤◌, Bool, true, false, List, [], ◌++◌, length, Option, Some, None, Result, Ok, Err, refl, sym, ap, ◌∙◌, append_assoc, arith}
 use Rattle.std.proofs.lemmas.List.{append-nil}
-use Rattle.go_syntax.specs.declared.symbols.Symbol.{Symbol}
-use Rattle.go_syntax.specs.declared.faults.Fault.{Fault}
+use Rattle.go_expr_syntax.specs.declared.symbols.Symbol.{Symbol}
+use Rattle.go_expr_syntax.specs.declared.faults.Fault.{Fault}
 use Rattle.go_syntax.specs.declared.tree.Import.{Import}
 use Rattle.go_syntax.specs.declared.tree.Top.{Top}
-use Rattle.go_syntax.specs.declared.faults.Stop.{Stop}
-use Rattle.go_syntax.specs.declared.faults.Stop.TheVariants as stop
-use Rattle.go_syntax.specs.Reading.{Fails, Reply, ◌>>=◌, past, choose, steps, is_semicolon, is_import, is_var, is_type, is_const, is_func}
+use Rattle.go_expr_syntax.specs.declared.faults.Stop.{Stop}
+use Rattle.go_expr_syntax.specs.declared.faults.Stop.TheVariants as stop
+use Rattle.go_expr_syntax.specs.Reading.{Fails, Reply, ◌>>=◌, past, choose, steps, is_semicolon, is_import, is_var, is_type, is_const, is_func}
 use Rattle.go_syntax.specs.Decls.{IsImport, IsVarSpec, IsTypeSpec, IsGroup}
 use Rattle.go_syntax.specs.Files.{import_at, var_spec_at, type_spec_at, group_at, const_group_at, func_group_at, decl_more, decl_end, decl_at, import_step, top_step, some_semicolon, some_decl, no_decl, import_decl, top_decl, step_end}
-use Rattle.go_syntax.proofs.Viable.{ReadsAt}
-use Rattle.go_syntax.proofs.Rows.{past_shorter}
-use Rattle.go_syntax.proofs.Steps.{Local, steps_is}
+use Rattle.go_expr_syntax.proofs.Viable.{ReadsAt}
+use Rattle.go_expr_syntax.proofs.Rows.{past_shorter}
+use Rattle.go_expr_syntax.proofs.Steps.{Local, steps_is}
 use Rattle.go_syntax.proofs.Groups.{Any, decl_local_at}
 use Rattle.go_syntax.proofs.FileReads.{import_groups, var_groups, type_groups, ConstsAt, const_groups, FuncsAt, func_groups, import_local, top_local}
-use Rattle.go_syntax.proofs.Turns.{with_front}
+use Rattle.go_expr_syntax.proofs.Turns.{with_front}
 
 -- a declaration, and then more of them
 abbrev pub then_more : {X : Type 0} → (List Symbol → Reply (List X)) → Reply (Option (List X)) → Reply (List X)

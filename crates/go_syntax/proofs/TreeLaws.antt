@@ -2,13 +2,13 @@
 use Rattle.std.proofs.Common.{◌≡◌, ℕ, ◌<◌, ◌≤◌, nat_le, max, Bool, true, false, List, [], ◌∷◌, ◌++◌, length, Result, Ok, refl, sym, ap, subst, ◌∙◌, append_assoc, arith}
 use Rattle.std.proofs.lemmas.Bool.{leb-true, leb-false}
 use Rattle.std.proofs.lemmas.List.{append-nil}
-use Rattle.go_syntax.specs.declared.symbols.Symbol.{Symbol}
+use Rattle.go_expr_syntax.specs.declared.symbols.Symbol.{Symbol}
 use Rattle.go_syntax.specs.declared.tree.SourceFile.{SourceFile}
-use Rattle.go_syntax.specs.declared.faults.Fault.{Fault}
+use Rattle.go_expr_syntax.specs.declared.faults.Fault.{Fault}
 use Rattle.go_syntax.specs.Decls.{IsFileOf}
 use Rattle.go_syntax.specs.Files.{file_at}
 use Rattle.go_syntax.specs.Outcomes.{IsFile, BeginsFile, Stops, IsUnexpected, Deepens, IsTooDeep}
-use Rattle.go_syntax.proofs.EitherReads.{goes_further}
+use Rattle.go_expr_syntax.proofs.EitherReads.{goes_further}
 use Rattle.go_syntax.proofs.Laws.{is_only}
 
 abbrev found : SourceFile → Result SourceFile Fault

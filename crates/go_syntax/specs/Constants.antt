@@ -1,20 +1,20 @@
 -- Declarations of constants: the grammar, and how they are read.
 use Rattle.std.specs.Prelude.{ℕ, suc, max, List, [], ◌∷◌, Option, Some, None, Ok}
-use Rattle.go_syntax.specs.declared.symbols.Symbol.{Symbol}
-use Rattle.go_syntax.specs.declared.symbols.Symbol.TheVariants as t
-use Rattle.go_syntax.specs.declared.symbols.Ident.{Ident}
-use Rattle.go_syntax.specs.declared.tree.Expr.{Expr}
-use Rattle.go_syntax.specs.declared.tree.TypeExpr.{TypeExpr}
+use Rattle.go_expr_syntax.specs.declared.symbols.Symbol.{Symbol}
+use Rattle.go_expr_syntax.specs.declared.symbols.Symbol.TheVariants as t
+use Rattle.go_expr_syntax.specs.declared.symbols.Ident.{Ident}
+use Rattle.go_expr_syntax.specs.declared.tree.Expr.{Expr}
+use Rattle.go_type_syntax.specs.declared.tree.TypeExpr.{TypeExpr}
 use Rattle.go_syntax.specs.declared.tree.Top.{Top}
 use Rattle.go_syntax.specs.declared.tree.Top.TheVariants as top
 use Rattle.go_syntax.specs.declared.constants.Written.{Written}
-use Rattle.go_syntax.specs.declared.expressions.Operand.{Operand}
-use Rattle.go_syntax.specs.Reading.{Reply, ◌>>=◌, past, choose, peek, is_comma, is_assign, begins_type, steps}
-use Rattle.go_syntax.specs.Names.{IsNames, ident_at, names_at, names_more}
-use Rattle.go_syntax.specs.Expressions.{IsExpr}
-use Rattle.go_syntax.specs.Operands.{outer_expr}
-use Rattle.go_syntax.specs.Grammar.{IsType}
-use Rattle.go_syntax.specs.Types.{type_at}
+use Rattle.go_expr_syntax.specs.declared.expressions.Operand.{Operand}
+use Rattle.go_expr_syntax.specs.Reading.{Reply, ◌>>=◌, past, choose, peek, is_comma, is_assign, begins_type, steps}
+use Rattle.go_expr_syntax.specs.Names.{IsNames, ident_at, names_at, names_more}
+use Rattle.go_expr_syntax.specs.Expressions.{IsExpr}
+use Rattle.go_expr_syntax.specs.Operands.{outer_expr}
+use Rattle.go_type_syntax.specs.Grammar.{IsType}
+use Rattle.go_type_syntax.specs.Types.{type_at}
 
 -- ---- as they are written
 
@@ -23,13 +23,16 @@ written names ty values = record { names = names; ty = ty; values = values }
 
 -- ExpressionList = Expression { "," Expression }
 pub data IsExprs : ℕ → List Symbol → List Expr → List Symbol → Type 0 where
-  one_expr : (n : ℕ) (ts : List Symbol) (x : Operand) (rest : List Symbol) → IsExpr 5 n ts x rest → IsExprs n ts (x.expr ∷ []) rest
-  more_exprs : (m n c : ℕ) (ts : List Symbol) (x : Operand) (us : List Symbol) (xs : List Expr) (rest : List Symbol) → IsExpr 5 m ts x (t.Comma c ∷ us) → IsExprs n us xs rest
+  one_expr : (n : ℕ) (ts : List Symbol) (x : Operand) (rest : List Symbol) → IsExpr 5 n ts x rest
+      → IsExprs n ts (x.expr ∷ []) rest
+  more_exprs : (m n c : ℕ) (ts : List Symbol) (x : Operand) (us : List Symbol) (xs : List Expr) (rest : List Symbol)
+      → IsExpr 5 m ts x (t.Comma c ∷ us) → IsExprs n us xs rest
       → IsExprs (max m n) ts (x.expr ∷ xs) rest
 
 -- ConstSpec = IdentifierList [ [ Type ] "=" ExpressionList ]
 pub data IsConstSpec : ℕ → List Symbol → Written → List Symbol → Type 0 where
-  as_before : (ts : List Symbol) (i : Ident) (names : List Ident) (rest : List Symbol) → IsNames ts (i ∷ names) rest → IsConstSpec 0 ts (written (i ∷ names) None []) rest
+  as_before : (ts : List Symbol) (i : Ident) (names : List Ident) (rest : List Symbol) → IsNames ts (i ∷ names) rest
+      → IsConstSpec 0 ts (written (i ∷ names) None []) rest
   untyped : (n a : ℕ) (ts : List Symbol) (i : Ident) (names : List Ident) (us : List Symbol) (values : List Expr) (rest : List Symbol) → IsNames ts (i ∷ names) (t.Assign a ∷ us) → IsExprs n us values rest
       → IsConstSpec n ts (written (i ∷ names) None values) rest
   typed : (m n a : ℕ) (ts : List Symbol) (i : Ident) (names : List Ident) (us : List Symbol) (ty : TypeExpr) (vs : List Symbol) (values : List Expr) (rest : List Symbol)

@@ -1,19 +1,21 @@
 -- Declarations and files, as they are read.
 use Rattle.std.specs.Prelude.{ℕ, Bool, true, false, List, [], ◌∷◌, ◌++◌, length, Option, Some, None, Result, Ok, Err}
-use Rattle.go_syntax.specs.declared.symbols.Symbol.{Symbol}
-use Rattle.go_syntax.specs.declared.symbols.Symbol.TheVariants as t
-use Rattle.go_syntax.specs.declared.symbols.Ident.{Ident}
-use Rattle.go_syntax.specs.declared.faults.Fault.{Fault}
-use Rattle.go_syntax.specs.declared.faults.Fault.TheVariants.{DotImport}
+use Rattle.go_expr_syntax.specs.declared.symbols.Symbol.{Symbol}
+use Rattle.go_expr_syntax.specs.declared.symbols.Symbol.TheVariants as t
+use Rattle.go_expr_syntax.specs.declared.symbols.Ident.{Ident}
+use Rattle.go_expr_syntax.specs.declared.faults.Fault.{Fault}
+use Rattle.go_expr_syntax.specs.declared.faults.Fault.TheVariants.{DotImport}
 use Rattle.go_syntax.specs.declared.constants.Written.{Written}
 use Rattle.go_syntax.specs.declared.tree.Import.{Import}
 use Rattle.go_syntax.specs.declared.tree.TParam.{TParam}
 use Rattle.go_syntax.specs.declared.tree.Top.{Top}
 use Rattle.go_syntax.specs.declared.tree.Top.TheVariants as top
 use Rattle.go_syntax.specs.declared.tree.SourceFile.{SourceFile}
-use Rattle.go_syntax.specs.Reading.{Quoted, Reply, ◌>>=◌, unexpected, past, choose, is_package, is_semicolon, is_comma, is_assign, is_open_paren, is_close_paren, is_open_bracket, is_import, is_var, is_type, is_const, is_func, row, steps}
-use Rattle.go_syntax.specs.Names.{ident_at, names_at, names_more}
-use Rattle.go_syntax.specs.Types.{type_at}
+use Rattle.go_expr_syntax.specs.Reading.{Quoted, Reply, ◌>>=◌, unexpected, past, choose, is_package, is_semicolon}
+use Rattle.go_expr_syntax.specs.Reading.{is_comma, is_assign, is_open_paren, is_close_paren, is_open_bracket, is_import}
+use Rattle.go_expr_syntax.specs.Reading.{is_var, is_type, is_const, is_func, row, steps}
+use Rattle.go_expr_syntax.specs.Names.{ident_at, names_at, names_more}
+use Rattle.go_type_syntax.specs.Types.{type_at}
 use Rattle.go_syntax.specs.Generics.{opens_params, tparams_at}
 use Rattle.go_syntax.specs.Skipped.{skip}
 use Rattle.go_syntax.specs.Functions.{func_at}
@@ -111,7 +113,8 @@ abbrev pub decl_end : {X : Type 0} → (List Symbol → Reply (List X)) → List
 decl_end more xs ts = past is_semicolon ts >>= λ us. decl_more more xs us
 
 -- after the keyword
-abbrev pub decl_at : {X : Type 0} → (List Symbol → Reply (List X)) → (List Symbol → Reply (List X)) → List Symbol → Reply (List X)
+abbrev pub decl_at : {X : Type 0} → (List Symbol → Reply (List X)) → (List Symbol → Reply (List X)) → List Symbol
+    → Reply (List X)
 decl_at group more ts = group ts >>= λ xs. decl_end more xs.0 xs.1
 
 abbrev pub import_step : (List Symbol → Reply (List Import)) → List Symbol → Reply (List Import)

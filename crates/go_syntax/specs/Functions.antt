@@ -1,17 +1,19 @@
 -- Declarations of functions and methods, as they are written and as they are read.
 use Rattle.std.specs.Prelude.{◌≡◌, ℕ, max, Bool, true, false, List, [], ◌∷◌, ◌++◌, Option, Some, None, Ok}
-use Rattle.go_syntax.specs.declared.symbols.Symbol.{Symbol}
-use Rattle.go_syntax.specs.declared.symbols.Symbol.TheVariants as t
-use Rattle.go_syntax.specs.declared.symbols.Ident.{Ident}
+use Rattle.go_expr_syntax.specs.declared.symbols.Symbol.{Symbol}
+use Rattle.go_expr_syntax.specs.declared.symbols.Symbol.TheVariants as t
+use Rattle.go_expr_syntax.specs.declared.symbols.Ident.{Ident}
 use Rattle.go_syntax.specs.declared.tree.Receiver.{Receiver}
 use Rattle.go_syntax.specs.declared.tree.FuncDecl.{FuncDecl}
-use Rattle.go_syntax.specs.declared.tree.SigExpr.{SigExpr}
+use Rattle.go_type_syntax.specs.declared.tree.SigExpr.{SigExpr}
 use Rattle.go_syntax.specs.declared.tree.TParam.{TParam}
-use Rattle.go_syntax.specs.Reading.{Reply, ◌>>=◌, past, choose, starts, is_comma, is_close_paren, is_open_paren, is_open_bracket, is_close_bracket, is_open_brace, is_close_brace, is_star, Shape, series_item, series}
-use Rattle.go_syntax.specs.Names.{ident_at, ident_or}
-use Rattle.go_syntax.specs.Grammar.{IsSig}
-use Rattle.go_syntax.specs.Params.{sig_at}
-use Rattle.go_syntax.specs.Types.{type_at}
+use Rattle.go_expr_syntax.specs.Reading.{Reply, ◌>>=◌, past, choose, starts, is_comma, is_close_paren, is_open_paren}
+use Rattle.go_expr_syntax.specs.Reading.{is_open_bracket, is_close_bracket, is_open_brace, is_close_brace, is_star}
+use Rattle.go_expr_syntax.specs.Reading.{ListForm, series_item, series}
+use Rattle.go_expr_syntax.specs.Names.{ident_at, ident_or}
+use Rattle.go_type_syntax.specs.Grammar.{IsSig}
+use Rattle.go_type_syntax.specs.Params.{sig_at}
+use Rattle.go_type_syntax.specs.Types.{type_at}
 use Rattle.go_syntax.specs.Generics.{IsGeneric, generic_at}
 use Rattle.go_syntax.specs.Skipped.{IsSkipped, skip}
 
@@ -27,12 +29,14 @@ function r i ps sig = record { receiver = r; name = i; tparams = ps; sig = sig }
 pub data IsIdents : List Symbol → List Ident → List Symbol → Type 0 where
   no_ident : (c : ℕ) (rest : List Symbol) → IsIdents (t.CloseBracket c ∷ rest) [] rest
   last_ident : (i : Ident) (c : ℕ) (rest : List Symbol) → IsIdents (t.Ident i ∷ t.CloseBracket c ∷ rest) (i ∷ []) rest
-  more_idents : (i : Ident) (s : ℕ) (ts : List Symbol) (names : List Ident) (rest : List Symbol) → IsIdents ts names rest → IsIdents (t.Ident i ∷ t.Comma s ∷ ts) (i ∷ names) rest
+  more_idents : (i : Ident) (s : ℕ) (ts : List Symbol) (names : List Ident) (rest : List Symbol)
+      → IsIdents ts names rest → IsIdents (t.Ident i ∷ t.Comma s ∷ ts) (i ∷ names) rest
 
 -- [ "[" IdentifierList [ "," ] "]" ]
 pub data IsArgs : List Symbol → List Ident → List Symbol → Type 0 where
   no_args : (rest : List Symbol) → IsArgs rest [] rest
-  some_args : (o : ℕ) (ts : List Symbol) (names : List Ident) (rest : List Symbol) → starts is_close_bracket ts ≡ false → IsIdents ts names rest → IsArgs (t.OpenBracket o ∷ ts) names rest
+  some_args : (o : ℕ) (ts : List Symbol) (names : List Ident) (rest : List Symbol)
+      → starts is_close_bracket ts ≡ false → IsIdents ts names rest → IsArgs (t.OpenBracket o ∷ ts) names rest
 
 -- [ "," ] ")"
 pub data IsReceiverEnd : List Symbol → List Symbol → Type 0 where
@@ -41,16 +45,22 @@ pub data IsReceiverEnd : List Symbol → List Symbol → Type 0 where
 
 -- after the parenthesis: [ identifier ] [ "*" ] identifier [ Args ] [ "," ] ")"
 pub data IsReceiver : List Symbol → Receiver → List Symbol → Type 0 where
-  by_value : (base : Ident) (ts : List Symbol) (args : List Ident) (us rest : List Symbol) → IsArgs ts args us → IsReceiverEnd us rest → IsReceiver (t.Ident base ∷ ts) (receiver None false base args) rest
-  by_pointer : (p : ℕ) (base : Ident) (ts : List Symbol) (args : List Ident) (us rest : List Symbol) → IsArgs ts args us → IsReceiverEnd us rest → IsReceiver (t.Star p ∷ t.Ident base ∷ ts) (receiver None true base args) rest
-  named_value : (i base : Ident) (ts : List Symbol) (args : List Ident) (us rest : List Symbol) → IsArgs ts args us → IsReceiverEnd us rest → IsReceiver (t.Ident i ∷ t.Ident base ∷ ts) (receiver (Some i) false base args) rest
-  named_pointer : (i : Ident) (p : ℕ) (base : Ident) (ts : List Symbol) (args : List Ident) (us rest : List Symbol) → IsArgs ts args us → IsReceiverEnd us rest
+  by_value : (base : Ident) (ts : List Symbol) (args : List Ident) (us rest : List Symbol) → IsArgs ts args us
+      → IsReceiverEnd us rest → IsReceiver (t.Ident base ∷ ts) (receiver None false base args) rest
+  by_pointer : (p : ℕ) (base : Ident) (ts : List Symbol) (args : List Ident) (us rest : List Symbol)
+      → IsArgs ts args us → IsReceiverEnd us rest
+      → IsReceiver (t.Star p ∷ t.Ident base ∷ ts) (receiver None true base args) rest
+  named_value : (i base : Ident) (ts : List Symbol) (args : List Ident) (us rest : List Symbol) → IsArgs ts args us
+      → IsReceiverEnd us rest → IsReceiver (t.Ident i ∷ t.Ident base ∷ ts) (receiver (Some i) false base args) rest
+  named_pointer : (i : Ident) (p : ℕ) (base : Ident) (ts : List Symbol) (args : List Ident) (us rest : List Symbol)
+      → IsArgs ts args us → IsReceiverEnd us rest
       → IsReceiver (t.Ident i ∷ t.Star p ∷ t.Ident base ∷ ts) (receiver (Some i) true base args) rest
 
 -- [ "{" skipped "}" ]
 pub data IsBody : List Symbol → List Symbol → Type 0 where
   no_body : (rest : List Symbol) → IsBody rest rest
-  body : (o c : ℕ) (ts rest : List Symbol) → IsSkipped false ts (t.CloseBrace c ∷ rest) → IsBody (t.OpenBrace o ∷ ts) rest
+  body : (o c : ℕ) (ts rest : List Symbol) → IsSkipped false ts (t.CloseBrace c ∷ rest)
+      → IsBody (t.OpenBrace o ∷ ts) rest
 
 -- FunctionDecl = "func" identifier [ TypeParams ] Signature [ Body ], MethodDecl = "func" Receiver identifier Signature [ Body ], after the word
 pub data IsFunc : ℕ → List Symbol → FuncDecl → List Symbol → Type 0 where
@@ -61,7 +71,7 @@ pub data IsFunc : ℕ → List Symbol → FuncDecl → List Symbol → Type 0 wh
 
 -- ---- reading
 
-abbrev pub idents : Shape Ident (List Ident)
+abbrev pub idents : ListForm Ident (List Ident)
 idents = record { sep = is_comma; closes = is_close_bracket; final = λ x. false; nil = []; cons = λ x xs. x ∷ xs }
 
 -- such identifiers behind others

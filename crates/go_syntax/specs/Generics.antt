@@ -1,15 +1,16 @@
 -- Type parameters: the grammar, and how they are read.
 use Rattle.std.specs.Prelude.{◌≡◌, ℕ, max, Bool, true, false, List, [], ◌∷◌, ◌++◌, if◌then◌else◌, Ok}
-use Rattle.go_syntax.specs.declared.symbols.Symbol.{Symbol}
-use Rattle.go_syntax.specs.declared.symbols.Symbol.TheVariants as t
-use Rattle.go_syntax.specs.declared.symbols.Ident.{Ident}
+use Rattle.go_expr_syntax.specs.declared.symbols.Symbol.{Symbol}
+use Rattle.go_expr_syntax.specs.declared.symbols.Symbol.TheVariants as t
+use Rattle.go_expr_syntax.specs.declared.symbols.Ident.{Ident}
 use Rattle.go_syntax.specs.declared.tree.TParam.{TParam}
-use Rattle.go_syntax.specs.declared.tree.TypeExpr.{TypeExpr}
-use Rattle.go_syntax.specs.Reading.{Reply, Fit, from_start, ◌>>=◌, past, choose, starts, is_comma, is_open_bracket, is_close_bracket, Shape, series_item, series}
-use Rattle.go_syntax.specs.Names.{IsNames, ident_at, names_at, names_more}
-use Rattle.go_syntax.specs.Grammar.{IsUnion}
-use Rattle.go_syntax.specs.Elements.{union_at}
-use Rattle.go_syntax.specs.Types.{type_at, lower_at}
+use Rattle.go_type_syntax.specs.declared.tree.TypeExpr.{TypeExpr}
+use Rattle.go_expr_syntax.specs.Reading.{shows_length, Reply, Fit, from_start, ◌>>=◌, past, choose, starts, is_comma}
+use Rattle.go_expr_syntax.specs.Reading.{is_open_bracket, is_close_bracket, ListForm, series_item, series}
+use Rattle.go_expr_syntax.specs.Names.{IsNames, ident_at, names_at, names_more}
+use Rattle.go_type_syntax.specs.Grammar.{IsUnion}
+use Rattle.go_type_syntax.specs.Elements.{union_at}
+use Rattle.go_type_syntax.specs.Types.{type_at, lower_at}
 
 abbrev pub tparam : List Ident → TypeExpr → ℕ → TParam
 tparam names constraint at = record { names = names; constraint = constraint; at = at }
@@ -24,23 +25,16 @@ pub data IsTParam : ℕ → List Symbol → TParam → List Symbol → Type 0 wh
 -- up to the bracket that closes, with a comma between each two, and perhaps after the last
 pub data IsTParams : ℕ → List Symbol → List TParam → List Symbol → Type 0 where
   no_tparam : (c : ℕ) (rest : List Symbol) → IsTParams 0 (t.CloseBracket c ∷ rest) [] rest
-  last_tparam : (n c : ℕ) (ts : List Symbol) (x : TParam) (rest : List Symbol) → IsTParam n ts x (t.CloseBracket c ∷ rest) → IsTParams n ts (x ∷ []) rest
-  more_tparams : (m n s : ℕ) (ts us : List Symbol) (x : TParam) (xs : List TParam) (rest : List Symbol) → IsTParam m ts x (t.Comma s ∷ us) → IsTParams n us xs rest → IsTParams (max m n) ts (x ∷ xs) rest
+  last_tparam : (n c : ℕ) (ts : List Symbol) (x : TParam) (rest : List Symbol)
+      → IsTParam n ts x (t.CloseBracket c ∷ rest) → IsTParams n ts (x ∷ []) rest
+  more_tparams : (m n s : ℕ) (ts us : List Symbol) (x : TParam) (xs : List TParam) (rest : List Symbol)
+      → IsTParam m ts x (t.Comma s ∷ us) → IsTParams n us xs rest → IsTParams (max m n) ts (x ∷ xs) rest
 
 -- [ "[" TypeParam { "," TypeParam } [ "," ] "]" ]
 pub data IsGeneric : ℕ → List Symbol → List TParam → List Symbol → Type 0 where
   plain : (rest : List Symbol) → IsGeneric 0 rest [] rest
-  with_params : (n o : ℕ) (ts : List Symbol) (xs : List TParam) (rest : List Symbol) → starts is_close_bracket ts ≡ false → IsTParams n ts xs rest → IsGeneric n (t.OpenBracket o ∷ ts) xs rest
-
--- whether this token goes on with the length of an array after an identifier, or ends it
-abbrev pub shows_length : Symbol → Bool
-shows_length (t.CloseBracket at) = true
-shows_length (t.Dot at) = true
-shows_length (t.OpenParen at) = true
-shows_length (t.Star at) = true
-shows_length (t.Bar at) = true
-shows_length (t.Operator op at) = true
-shows_length _ = false
+  with_params : (n o : ℕ) (ts : List Symbol) (xs : List TParam) (rest : List Symbol)
+      → starts is_close_bracket ts ≡ false → IsTParams n ts xs rest → IsGeneric n (t.OpenBracket o ∷ ts) xs rest
 
 -- whether type parameters come next after a declared type's name, and not an array
 abbrev pub opens_params : List Symbol → Bool
@@ -65,7 +59,7 @@ tparam_first n i ts = choose (past is_comma ts) (tparam_more n i) (tparam_type n
 abbrev pub tparam_at : ℕ → List Symbol → Reply TParam
 tparam_at n ts = ident_at ts >>= λ i. tparam_first n i.0 i.1
 
-abbrev pub tparams : Shape TParam (List TParam)
+abbrev pub tparams : ListForm TParam (List TParam)
 tparams = record { sep = is_comma; closes = is_close_bracket; final = λ x. false; nil = []; cons = λ x xs. x ∷ xs }
 
 -- such parameters behind others

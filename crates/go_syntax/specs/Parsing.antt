@@ -2,17 +2,18 @@
 use Rattle.std.specs.Prelude.{◌≡◌, ℕ, List, Result, Ok, Err}
 use Rattle.go_lexer.specs.declared.token_kinds.Token.{Token}
 use Rattle.go_syntax.specs.declared.tree.SourceFile.{SourceFile}
-use Rattle.go_syntax.specs.declared.faults.Fault.{Fault}
-use Rattle.go_syntax.specs.declared.faults.Fault.TheVariants as stop
-use Rattle.go_syntax.specs.declared.faults.Stop.{Stop}
-use Rattle.go_syntax.specs.declared.faults.Stop.TheVariants as stopped
-use Rattle.go_syntax.specs.declared.parsing.What.{What}
-use Rattle.go_syntax.specs.declared.parsing.What.TheVariants as what
+use Rattle.go_expr_syntax.specs.declared.faults.Fault.{Fault}
+use Rattle.go_expr_syntax.specs.declared.faults.Fault.TheVariants as stop
+use Rattle.go_expr_syntax.specs.declared.faults.Stop.{Stop}
+use Rattle.go_expr_syntax.specs.declared.faults.Stop.TheVariants as stopped
+use Rattle.go_syntax.specs.declared.parsing.LeftOutKind.{LeftOutKind}
+use Rattle.go_syntax.specs.declared.parsing.LeftOutKind.TheVariants as what
 use Rattle.go_syntax.specs.declared.parsing.SyntaxFault.{SyntaxFault}
 use Rattle.go_syntax.specs.declared.parsing.SyntaxFault.TheVariants as fault
 use Rattle.go_syntax.specs.Outcomes.{IsUnexpected, IsTooDeep}
-use Rattle.go_syntax.specs.Source.{symbols_of, place_of}
+use Rattle.go_expr_syntax.specs.TokenView.{symbols_of, place_of}
 use Rattle.go_syntax.specs.Files.{file_at}
+use Rattle.go_syntax.specs.declared.parsing.TheConstants.{MAX_DEPTH}
 
 abbrev pub fault_of : List ℕ → List Token → Fault → SyntaxFault
 fault_of src tokens (stop.Unexpected left) = fault.Unexpected (place_of src tokens left)
@@ -26,7 +27,7 @@ placed_in src tokens (Ok f) = Ok f
 placed_in src tokens (Err f) = Err (fault_of src tokens f)
 
 abbrev pub reading_of : List ℕ → List Token → Result SourceFile SyntaxFault
-reading_of src tokens = placed_in src tokens (file_at 1000 (symbols_of src tokens))
+reading_of src tokens = placed_in src tokens (file_at MAX_DEPTH (symbols_of src tokens))
 
 -- the answer is this one, unless memory ran out
 abbrev pub IsReading : Result SourceFile SyntaxFault → Result SourceFile SyntaxFault → Type 0
@@ -39,8 +40,8 @@ answer_of src tokens (Ok f) = Ok f
 answer_of src tokens (Err stopped.OutOfMemory) = Err fault.OutOfMemory
 answer_of src tokens (Err (stopped.At f)) = Err (fault_of src tokens f)
 
-abbrev pub TellsOut : List ℕ → List Token → ℕ → What → Type 0
-TellsOut src tokens at what.Depth = (left : ℕ) × IsTooDeep 1000 (symbols_of src tokens) left
+abbrev pub TellsOut : List ℕ → List Token → ℕ → LeftOutKind → Type 0
+TellsOut src tokens at what.Depth = (left : ℕ) × IsTooDeep MAX_DEPTH (symbols_of src tokens) left
 TellsOut src tokens at what.Call = (left : ℕ) × IsUnexpected (symbols_of src tokens) left
 TellsOut src tokens at what.DotImport = (left : ℕ) × (at ≡ place_of src tokens left) × IsUnexpected (symbols_of src tokens) left
 

@@ -1,20 +1,20 @@
 ghost use Rattle.std.specs.Prelude.{◌≡◌, None};
-ghost use Rattle.go_syntax.specs.Reading.{Gives, row, is_close_paren};
-ghost use Rattle.go_syntax.specs.Constants.{source_of, constants, exprs_at, const_values, const_typed, const_rest, const_first, const_spec_at};
+ghost use Rattle.go_expr_syntax.specs.Reading.{row, is_close_paren, ParsesAs};
+ghost use Rattle.go_syntax.specs.Constants.{source_of, constants, exprs_at, const_values, const_assign, const_typed};
+ghost use Rattle.go_syntax.specs.Constants.{const_rest, const_first, const_spec_at};
 ghost use Rattle.go_syntax.specs.Files.{counting, const_group_at};
 
-use crate::expressions::outer_expression;
-use crate::faults::Stop;
-use crate::names::more_names;
-use crate::reading::{Kind, ident, onward, past, starts};
-use crate::symbols::{Ident, Tokens};
-use crate::tree::{ConstSpec, Expr, Top, TypeExpr};
-use crate::types::type_expr;
+use crate::tree::{ConstSpec, Top};
+use go_expr_syntax::{
+    Expr, Ident, Kind, Read, Stop, Tokens, ident, more_names, onward, outer_expression, past,
+    single, starts,
+};
+use go_type_syntax::{TypeExpr, type_expr};
 use sqlite_items::Items;
 use std::alloc::Global;
 
 /// Constants as they are written. With no values they repeat those before them.
-#[derive(Debug, Drop)]
+#[derive(Drop)]
 pub(crate) struct Written {
     pub names: Items<Ident>,
     pub ty: Option<TypeExpr>,
@@ -22,12 +22,8 @@ pub(crate) struct Written {
 }
 
 /// Expressions with a comma between each two.
-fn expression_list(
-    alloc: Global,
-    tokens: Tokens<'_>,
-    left: usize,
-) -> Result<(Items<Expr>, Tokens<'_>), Stop>
-    ensures { Gives (λ x. (x.0, x.1.now)) result (exprs_at left tokens.now) }
+fn expression_list(alloc: Global, tokens: Tokens<'_>, left: usize) -> Read<'_, Items<Expr>>
+    ensures { ParsesAs result (exprs_at left tokens.now) }
 {
     let mut found = Items::new(alloc);
     let mut rest = tokens;
@@ -48,25 +44,33 @@ fn values(
     ty: Option<TypeExpr>,
     tokens: Tokens<'_>,
     left: usize,
-) -> Result<(Written, Tokens<'_>), Stop>
-    ensures { Gives (λ x. (x.0, x.1.now)) result (const_values left names ty tokens.now) }
+) -> Read<'_, Written>
+    ensures { ParsesAs result (const_values left names ty tokens.now) }
 {
     let (values, rest) = expression_list(alloc, tokens, left)?;
     Ok((Written { names, ty, values }, rest))
 }
 
-/// The type and values of constants.
-fn typed(
+/// The values of constants of this type.
+fn assigned(
     alloc: Global,
     names: Items<Ident>,
+    ty: TypeExpr,
     tokens: Tokens<'_>,
     left: usize,
-) -> Result<(Written, Tokens<'_>), Stop>
-    ensures { Gives (λ x. (x.0, x.1.now)) result (const_typed left names tokens.now) }
+) -> Read<'_, Written>
+    ensures { ParsesAs result (const_assign left names ty tokens.now) }
+{
+    let rest = past(Kind::Assign, tokens)?;
+    values(alloc, names, Some(ty), rest, left)
+}
+
+/// The type and values of constants.
+fn typed(alloc: Global, names: Items<Ident>, tokens: Tokens<'_>, left: usize) -> Read<'_, Written>
+    ensures { ParsesAs result (const_typed left names tokens.now) }
 {
     let ((ty, _), rest) = type_expr(alloc, tokens, left)?;
-    let rest = past(Kind::Assign, rest)?;
-    values(alloc, names, Some(ty), rest, left)
+    assigned(alloc, names, ty, rest, left)
 }
 
 /// What follows the names of constants.
@@ -75,8 +79,8 @@ fn after_names(
     names: Items<Ident>,
     tokens: Tokens<'_>,
     left: usize,
-) -> Result<(Written, Tokens<'_>), Stop>
-    ensures { Gives (λ x. (x.0, x.1.now)) result (const_rest left names tokens.now) }
+) -> Read<'_, Written>
+    ensures { ParsesAs result (const_rest left names tokens.now) }
 {
     if let Ok(rest) = past(Kind::Assign, tokens) {
         return values(alloc, names, None, rest, left);
@@ -93,26 +97,20 @@ fn after_names(
 }
 
 /// Constants, after their first name.
-fn first_const(
-    alloc: Global,
-    first: Ident,
-    tokens: Tokens<'_>,
-    left: usize,
-) -> Result<(Written, Tokens<'_>), Stop>
-    ensures { Gives (λ x. (x.0, x.1.now)) result (const_first left first tokens.now) }
+fn first_const(alloc: Global, first: Ident, tokens: Tokens<'_>, left: usize) -> Read<'_, Written>
+    ensures { ParsesAs result (const_first left first tokens.now) }
 {
     if let Ok(rest) = past(Kind::Comma, tokens) {
         let (names, rest) = more_names(alloc, first, rest)?;
         return after_names(alloc, names, rest, left);
     }
-    let mut names = Items::new(alloc);
-    names.push(first)?;
+    let names = single(alloc, first)?;
     after_names(alloc, names, tokens, left)
 }
 
 /// A specification of constants.
-fn const_spec(alloc: Global, tokens: Tokens<'_>, left: usize) -> Result<(Written, Tokens<'_>), Stop>
-    ensures { Gives (λ x. (x.0, x.1.now)) result (const_spec_at left tokens.now) }
+fn const_spec(alloc: Global, tokens: Tokens<'_>, left: usize) -> Read<'_, Written>
+    ensures { ParsesAs result (const_spec_at left tokens.now) }
 {
     let (first, rest) = ident(tokens)?;
     first_const(alloc, first, rest, left)
@@ -145,12 +143,8 @@ fn constants(written: Written, iota: usize, source: usize) -> Top
 }
 
 /// The constants of a group, after its parenthesis.
-fn const_block(
-    alloc: Global,
-    tokens: Tokens<'_>,
-    left: usize,
-) -> Result<(Items<Top>, Tokens<'_>), Stop>
-    ensures { Gives (λ x. (x.0, x.1.now)) result (counting 0 0 (row is_close_paren (const_spec_at left) tokens.now)) }
+fn const_block(alloc: Global, tokens: Tokens<'_>, left: usize) -> Read<'_, Items<Top>>
+    ensures { ParsesAs result (counting 0 0 (row is_close_paren (const_spec_at left) tokens.now)) }
 {
     let mut found = Items::new(alloc);
     let mut last = 0;
@@ -172,12 +166,8 @@ fn const_block(
 }
 
 /// One specification of constants, or a group of them.
-pub(crate) fn const_group(
-    alloc: Global,
-    tokens: Tokens<'_>,
-    left: usize,
-) -> Result<(Items<Top>, Tokens<'_>), Stop>
-    ensures { Gives (λ x. (x.0, x.1.now)) result (const_group_at left tokens.now) }
+pub(crate) fn const_group(alloc: Global, tokens: Tokens<'_>, left: usize) -> Read<'_, Items<Top>>
+    ensures { ParsesAs result (const_group_at left tokens.now) }
 {
     if let Ok(rest) = past(Kind::OpenParen, tokens) {
         return const_block(alloc, rest, left);

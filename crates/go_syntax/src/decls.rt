@@ -1,19 +1,20 @@
 ghost use Rattle.std.specs.Prelude.{◌≡◌, ◌≤◌, IfOk};
-ghost use Rattle.go_syntax.specs.Reading.{Exactly, Gives, row, is_close_paren};
-ghost use Rattle.go_syntax.specs.Files.{text_at, named_import, import_at, value_at, vars_typed, vars_rest, vars_first, declared_by, type_first, group_at, const_group_at, func_group_at, some_decl, import_decl, top_decl};
+ghost use Rattle.go_expr_syntax.specs.Reading.{Exactly, row, is_close_paren, ParsesAs};
+ghost use Rattle.go_syntax.specs.Files.{text_at, named_import, import_at, value_at, vars_typed, vars_rest, vars_first};
+ghost use Rattle.go_syntax.specs.Files.{declared_by, type_first, group_at, const_group_at, func_group_at, some_decl};
+ghost use Rattle.go_syntax.specs.Files.{import_decl, top_decl};
 ghost use Rattle.go_syntax.specs.Decls.{import};
 ghost use Rattle.go_syntax.specs.Specs.{spec_of};
 
 use crate::constants::const_group;
-use crate::faults::{Fault, Stop};
 use crate::functions::func_decl;
 use crate::generics::{opens_params, type_params};
-use crate::names::more_names;
-use crate::reading::{Kind, ident, onward, past, single};
 use crate::skipped::skipped;
-use crate::symbols::{Ident, Quoted, Symbol, Tokens};
 use crate::tree::{Import, TParam, Top, TypeSpec, VarSpec};
-use crate::types::type_expr;
+use go_expr_syntax::{
+    Fault, Ident, Kind, Quoted, Read, Stop, Symbol, Tokens, ident, more_names, onward, past, single,
+};
+use go_type_syntax::type_expr;
 use sqlite_items::Items;
 use std::alloc::{AllocError, Global};
 use string_literals::unquoted;
@@ -48,20 +49,16 @@ fn import(alloc: Global, name: Option<Ident>, path: &Quoted) -> Result<Import, A
 }
 
 /// An import, after its name.
-fn named_import(
-    alloc: Global,
-    name: Ident,
-    tokens: Tokens<'_>,
-) -> Result<(Import, Tokens<'_>), Stop>
-    ensures { Gives (λ x. (x.0, x.1.now)) result (named_import name tokens.now) }
+fn named_import(alloc: Global, name: Ident, tokens: Tokens<'_>) -> Read<'_, Import>
+    ensures { ParsesAs result (named_import name tokens.now) }
 {
     let (path, rest) = text(tokens)?;
     Ok((import(alloc, Some(name), path)?, rest))
 }
 
 /// An import, after the keyword or in a group.
-fn import_spec(alloc: Global, tokens: Tokens<'_>) -> Result<(Import, Tokens<'_>), Stop>
-    ensures { Gives (λ x. (x.0, x.1.now)) result (import_at tokens.now) }
+fn import_spec(alloc: Global, tokens: Tokens<'_>) -> Read<'_, Import>
+    ensures { ParsesAs result (import_at tokens.now) }
 {
     let [first, rest @ ..] = tokens else {
         return Err(Stop::At(Fault::Unexpected(0)));
@@ -75,8 +72,8 @@ fn import_spec(alloc: Global, tokens: Tokens<'_>) -> Result<(Import, Tokens<'_>)
 }
 
 /// Variables with their value, if one comes next.
-fn with_value(alloc: Global, vars: Top, tokens: Tokens<'_>) -> Result<(Top, Tokens<'_>), Stop>
-    ensures { Gives (λ x. (x.0, x.1.now)) result (value_at vars tokens.now) }
+fn with_value(alloc: Global, vars: Top, tokens: Tokens<'_>) -> Read<'_, Top>
+    ensures { ParsesAs result (value_at vars tokens.now) }
 {
     if let Ok(rest) = past(Kind::Assign, tokens) {
         let rest = skipped(alloc, true, rest)?;
@@ -86,13 +83,8 @@ fn with_value(alloc: Global, vars: Top, tokens: Tokens<'_>) -> Result<(Top, Toke
 }
 
 /// The type of variables, after their names.
-fn typed_vars(
-    alloc: Global,
-    names: Items<Ident>,
-    tokens: Tokens<'_>,
-    left: usize,
-) -> Result<(Top, Tokens<'_>), Stop>
-    ensures { Gives (λ x. (x.0, x.1.now)) result (vars_typed left names tokens.now) }
+fn typed_vars(alloc: Global, names: Items<Ident>, tokens: Tokens<'_>, left: usize) -> Read<'_, Top>
+    ensures { ParsesAs result (vars_typed left names tokens.now) }
 {
     let ((ty, _), rest) = type_expr(alloc, tokens, left)?;
     let ty = Some(ty);
@@ -105,8 +97,8 @@ fn after_var_names(
     names: Items<Ident>,
     tokens: Tokens<'_>,
     left: usize,
-) -> Result<(Top, Tokens<'_>), Stop>
-    ensures { Gives (λ x. (x.0, x.1.now)) result (vars_rest left names tokens.now) }
+) -> Read<'_, Top>
+    ensures { ParsesAs result (vars_rest left names tokens.now) }
 {
     if let Ok(rest) = past(Kind::Assign, tokens) {
         let rest = skipped(alloc, true, rest)?;
@@ -116,13 +108,8 @@ fn after_var_names(
 }
 
 /// Variables, after their first name.
-fn first_var(
-    alloc: Global,
-    first: Ident,
-    tokens: Tokens<'_>,
-    left: usize,
-) -> Result<(Top, Tokens<'_>), Stop>
-    ensures { Gives (λ x. (x.0, x.1.now)) result (vars_first left first tokens.now) }
+fn first_var(alloc: Global, first: Ident, tokens: Tokens<'_>, left: usize) -> Read<'_, Top>
+    ensures { ParsesAs result (vars_first left first tokens.now) }
 {
     if let Ok(rest) = past(Kind::Comma, tokens) {
         let (names, rest) = more_names(alloc, first, rest)?;
@@ -139,8 +126,8 @@ fn declared(
     tparams: Items<TParam>,
     tokens: Tokens<'_>,
     left: usize,
-) -> Result<(Top, Tokens<'_>), Stop>
-    ensures { Gives (λ x. (x.0, x.1.now)) result (declared_by left name tparams tokens.now) }
+) -> Read<'_, Top>
+    ensures { ParsesAs result (declared_by left name tparams tokens.now) }
 {
     if let Ok(rest) = past(Kind::Assign, tokens) {
         let ((ty, _), rest) = type_expr(alloc, rest, left)?;
@@ -151,13 +138,8 @@ fn declared(
 }
 
 /// A declared type, after its name.
-fn first_type(
-    alloc: Global,
-    name: Ident,
-    tokens: Tokens<'_>,
-    left: usize,
-) -> Result<(Top, Tokens<'_>), Stop>
-    ensures { Gives (λ x. (x.0, x.1.now)) result (type_first left name tokens.now) }
+fn first_type(alloc: Global, name: Ident, tokens: Tokens<'_>, left: usize) -> Read<'_, Top>
+    ensures { ParsesAs result (type_first left name tokens.now) }
 {
     if opens_params(tokens) {
         let rest = past(Kind::OpenBracket, tokens)?;
@@ -168,13 +150,8 @@ fn first_type(
 }
 
 /// A specification of this kind.
-fn one_spec(
-    alloc: Global,
-    keyword: Keyword,
-    tokens: Tokens<'_>,
-    left: usize,
-) -> Result<(Top, Tokens<'_>), Stop>
-    ensures { Gives (λ x. (x.0, x.1.now)) result (spec_of keyword left tokens.now) }
+fn one_spec(alloc: Global, keyword: Keyword, tokens: Tokens<'_>, left: usize) -> Read<'_, Top>
+    ensures { ParsesAs result (spec_of keyword left tokens.now) }
 {
     let (first, rest) = ident(tokens)?;
     match keyword {
@@ -184,8 +161,8 @@ fn one_spec(
 }
 
 /// The imports of a group, after its parenthesis.
-fn import_block(alloc: Global, tokens: Tokens<'_>) -> Result<(Items<Import>, Tokens<'_>), Stop>
-    ensures { Gives (λ x. (x.0, x.1.now)) result (row is_close_paren import_at tokens.now) }
+fn import_block(alloc: Global, tokens: Tokens<'_>) -> Read<'_, Items<Import>>
+    ensures { ParsesAs result (row is_close_paren import_at tokens.now) }
 {
     let mut found = Items::new(alloc);
     let mut rest = tokens;
@@ -209,9 +186,9 @@ fn spec_block(
     keyword: Keyword,
     tokens: Tokens<'_>,
     left: usize,
-) -> Result<(Items<Top>, Tokens<'_>), Stop>
+) -> Read<'_, Items<Top>>
     requires { 2 ≤ left }
-    ensures { Gives (λ x. (x.0, x.1.now)) result (row is_close_paren (spec_of keyword left) tokens.now) }
+    ensures { ParsesAs result (row is_close_paren (spec_of keyword left) tokens.now) }
 {
     let mut found = Items::new(alloc);
     let mut rest = tokens;
@@ -230,8 +207,8 @@ fn spec_block(
 }
 
 /// One import, or a group of them.
-fn import_group(alloc: Global, tokens: Tokens<'_>) -> Result<(Items<Import>, Tokens<'_>), Stop>
-    ensures { Gives (λ x. (x.0, x.1.now)) result (group_at import_at tokens.now) }
+fn import_group(alloc: Global, tokens: Tokens<'_>) -> Read<'_, Items<Import>>
+    ensures { ParsesAs result (group_at import_at tokens.now) }
 {
     if let Ok(rest) = past(Kind::OpenParen, tokens) {
         return import_block(alloc, rest);
@@ -248,9 +225,9 @@ fn spec_group(
     keyword: Keyword,
     tokens: Tokens<'_>,
     left: usize,
-) -> Result<(Items<Top>, Tokens<'_>), Stop>
+) -> Read<'_, Items<Top>>
     requires { 2 ≤ left }
-    ensures { Gives (λ x. (x.0, x.1.now)) result (group_at (spec_of keyword left) tokens.now) }
+    ensures { ParsesAs result (group_at (spec_of keyword left) tokens.now) }
 {
     if let Ok(rest) = past(Kind::OpenParen, tokens) {
         return spec_block(alloc, keyword, rest, left);
@@ -262,11 +239,8 @@ fn spec_group(
 }
 
 /// An import declaration with its semicolon, if one comes next.
-pub(crate) fn import_decl(
-    alloc: Global,
-    tokens: Tokens<'_>,
-) -> Result<(Option<Items<Import>>, Tokens<'_>), Stop>
-    ensures { Gives (λ x. (x.0, x.1.now)) result (import_decl tokens.now) }
+pub(crate) fn import_decl(alloc: Global, tokens: Tokens<'_>) -> Read<'_, Option<Items<Import>>>
+    ensures { ParsesAs result (import_decl tokens.now) }
 {
     if let Ok(rest) = past(Kind::Import, tokens) {
         let (imports, rest) = import_group(alloc, rest)?;
@@ -282,9 +256,9 @@ fn spec_decl(
     keyword: Keyword,
     tokens: Tokens<'_>,
     left: usize,
-) -> Result<(Option<Items<Top>>, Tokens<'_>), Stop>
+) -> Read<'_, Option<Items<Top>>>
     requires { 2 ≤ left }
-    ensures { Gives (λ x. (x.0, x.1.now)) result (some_decl (group_at (spec_of keyword left)) tokens.now) }
+    ensures { ParsesAs result (some_decl (group_at (spec_of keyword left)) tokens.now) }
 {
     let (specs, rest) = spec_group(alloc, keyword, tokens, left)?;
     let rest = past(Kind::Semicolon, rest)?;
@@ -292,12 +266,8 @@ fn spec_decl(
 }
 
 /// The constants after their keyword, with the semicolon.
-fn const_decl(
-    alloc: Global,
-    tokens: Tokens<'_>,
-    left: usize,
-) -> Result<(Option<Items<Top>>, Tokens<'_>), Stop>
-    ensures { Gives (λ x. (x.0, x.1.now)) result (some_decl (const_group_at left) tokens.now) }
+fn const_decl(alloc: Global, tokens: Tokens<'_>, left: usize) -> Read<'_, Option<Items<Top>>>
+    ensures { ParsesAs result (some_decl (const_group_at left) tokens.now) }
 {
     let (constants, rest) = const_group(alloc, tokens, left)?;
     let rest = past(Kind::Semicolon, rest)?;
@@ -305,12 +275,8 @@ fn const_decl(
 }
 
 /// The function or method after its keyword, with the semicolon.
-fn func_top(
-    alloc: Global,
-    tokens: Tokens<'_>,
-    left: usize,
-) -> Result<(Option<Items<Top>>, Tokens<'_>), Stop>
-    ensures { Gives (λ x. (x.0, x.1.now)) result (some_decl (func_group_at left) tokens.now) }
+fn func_top(alloc: Global, tokens: Tokens<'_>, left: usize) -> Read<'_, Option<Items<Top>>>
+    ensures { ParsesAs result (some_decl (func_group_at left) tokens.now) }
 {
     let (func, rest) = func_decl(alloc, tokens, left)?;
     let rest = past(Kind::Semicolon, rest)?;
@@ -322,9 +288,9 @@ pub(crate) fn top_decl(
     alloc: Global,
     tokens: Tokens<'_>,
     left: usize,
-) -> Result<(Option<Items<Top>>, Tokens<'_>), Stop>
+) -> Read<'_, Option<Items<Top>>>
     requires { 2 ≤ left }
-    ensures { Gives (λ x. (x.0, x.1.now)) result (top_decl left tokens.now) }
+    ensures { ParsesAs result (top_decl left tokens.now) }
 {
     if let Ok(rest) = past(Kind::Var, tokens) {
         return spec_decl(alloc, Keyword::Var, rest, left);

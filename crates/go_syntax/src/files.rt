@@ -1,18 +1,16 @@
 ghost use Rattle.std.specs.Prelude.{◌≤◌};
-ghost use Rattle.go_syntax.specs.Reading.{Gives};
-ghost use Rattle.go_syntax.specs.Files.{imports_at, tops_at, file_front, file_at};
+ghost use Rattle.go_expr_syntax.specs.Reading.{Gives, ParsesAs};
+ghost use Rattle.go_syntax.specs.Files.{imports_at, tops_at, file_tops, file_front, file_at};
 
 use crate::decls::{import_decl, top_decl};
-use crate::faults::{Fault, Stop};
-use crate::reading::{Kind, ident, onward, past};
-use crate::symbols::Tokens;
 use crate::tree::{Import, SourceFile, Top};
+use go_expr_syntax::{Fault, Ident, Kind, Read, Stop, Tokens, ident, onward, past};
 use sqlite_items::Items;
 use std::alloc::Global;
 
 /// The imports of a file.
-fn imports(alloc: Global, tokens: Tokens<'_>) -> Result<(Items<Import>, Tokens<'_>), Stop>
-    ensures { Gives (λ x. (x.0, x.1.now)) result (imports_at tokens.now) }
+fn imports(alloc: Global, tokens: Tokens<'_>) -> Read<'_, Items<Import>>
+    ensures { ParsesAs result (imports_at tokens.now) }
 {
     let mut found = Items::new(alloc);
     let mut rest = tokens;
@@ -27,9 +25,9 @@ fn imports(alloc: Global, tokens: Tokens<'_>) -> Result<(Items<Import>, Tokens<'
 }
 
 /// The declarations of a file.
-fn tops(alloc: Global, tokens: Tokens<'_>, left: usize) -> Result<(Items<Top>, Tokens<'_>), Stop>
+fn tops(alloc: Global, tokens: Tokens<'_>, left: usize) -> Read<'_, Items<Top>>
     requires { 2 ≤ left }
-    ensures { Gives (λ x. (x.0, x.1.now)) result (tops_at left tokens.now) }
+    ensures { ParsesAs result (tops_at left tokens.now) }
 {
     let mut found = Items::new(alloc);
     let mut rest = tokens;
@@ -43,27 +41,37 @@ fn tops(alloc: Global, tokens: Tokens<'_>, left: usize) -> Result<(Items<Top>, T
     }
 }
 
-/// A file's package clause, imports and declarations, and the tokens after them.
-#[tactic(auto, unfolding(crate::specs::Files::file_front))]
-fn file_front(
+/// A file's declarations, after its imports.
+fn with_tops(
     alloc: Global,
+    name: Ident,
+    imports: Items<Import>,
     tokens: Tokens<'_>,
     left: usize,
-) -> Result<(SourceFile, Tokens<'_>), Stop>
+) -> Read<'_, SourceFile>
     requires { 2 ≤ left }
-    ensures { Gives (λ x. (x.0, x.1.now)) result (file_front left tokens.now) }
+    ensures { ParsesAs result (file_tops left name imports tokens.now) }
 {
-    let rest = past(Kind::Package, tokens)?;
-    let (name, rest) = ident(rest)?;
-    let rest = past(Kind::Semicolon, rest)?;
-    let (imports, rest) = imports(alloc, rest)?;
-    let (tops, rest) = tops(alloc, rest, left)?;
+    let (tops, rest) = tops(alloc, tokens, left)?;
     let file = SourceFile {
         name,
         imports,
         tops,
     };
     Ok((file, rest))
+}
+
+/// A file's package clause, imports and declarations, and the tokens after them.
+#[tactic(auto, unfolding(crate::specs::Files::file_front))]
+fn file_front(alloc: Global, tokens: Tokens<'_>, left: usize) -> Read<'_, SourceFile>
+    requires { 2 ≤ left }
+    ensures { ParsesAs result (file_front left tokens.now) }
+{
+    let rest = past(Kind::Package, tokens)?;
+    let (name, rest) = ident(rest)?;
+    let rest = past(Kind::Semicolon, rest)?;
+    let (imports, rest) = imports(alloc, rest)?;
+    with_tops(alloc, name, imports, rest, left)
 }
 
 /// The file that these tokens are, as the reading of lists has it.

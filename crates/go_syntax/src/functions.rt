@@ -1,24 +1,20 @@
 ghost use Rattle.std.specs.Prelude.{◌≡◌};
-ghost use Rattle.go_syntax.specs.Reading.{Exactly, Gives};
-ghost use Rattle.go_syntax.specs.Functions.{idents_row, idents_at, args_at, receiver_end, receiver_base, receiver_pointer, receiver_first, receiver_at, body_at, func_sig, method_name, func_name, func_at};
+ghost use Rattle.go_expr_syntax.specs.Reading.{Exactly, ParsesAs};
+ghost use Rattle.go_syntax.specs.Functions.{idents_row, idents_at, args_at, receiver_end, receiver_base};
+ghost use Rattle.go_syntax.specs.Functions.{receiver_pointer, receiver_first, receiver_at, body_at, func_sig};
+ghost use Rattle.go_syntax.specs.Functions.{method_name, func_name, func_at};
 
-use crate::faults::{Fault, Stop};
 use crate::generics::generic;
-use crate::params::signature;
-use crate::reading::{Kind, ident, onward, past, single};
 use crate::skipped::skipped;
-use crate::symbols::{Ident, Tokens};
 use crate::tree::{FuncDecl, Receiver, TParam};
+use go_expr_syntax::{Fault, Ident, Kind, Read, Stop, Tokens, ident, onward, past, single};
+use go_type_syntax::signature;
 use sqlite_items::Items;
 use std::alloc::Global;
 
 /// Identifiers up to the bracket that closes, after those that were found.
-fn ident_row(
-    alloc: Global,
-    found: Items<Ident>,
-    tokens: Tokens<'_>,
-) -> Result<(Items<Ident>, Tokens<'_>), Stop>
-    ensures { Gives (λ x. (x.0, x.1.now)) result (idents_row found tokens.now) }
+fn ident_row(alloc: Global, found: Items<Ident>, tokens: Tokens<'_>) -> Read<'_, Items<Ident>>
+    ensures { ParsesAs result (idents_row found tokens.now) }
 {
     let mut found = found;
     let mut rest = tokens;
@@ -37,8 +33,8 @@ fn ident_row(
 }
 
 /// Identifiers up to the bracket that closes, one at least.
-fn idents(alloc: Global, tokens: Tokens<'_>) -> Result<(Items<Ident>, Tokens<'_>), Stop>
-    ensures { Gives (λ x. (x.0, x.1.now)) result (idents_at tokens.now) }
+fn idents(alloc: Global, tokens: Tokens<'_>) -> Read<'_, Items<Ident>>
+    ensures { ParsesAs result (idents_at tokens.now) }
 {
     let (first, rest) = ident(tokens)?;
     let found = single(alloc, first)?;
@@ -50,8 +46,8 @@ fn idents(alloc: Global, tokens: Tokens<'_>) -> Result<(Items<Ident>, Tokens<'_>
 }
 
 /// The arguments of a receiver's base, if they come next.
-fn args(alloc: Global, tokens: Tokens<'_>) -> Result<(Items<Ident>, Tokens<'_>), Stop>
-    ensures { Gives (λ x. (x.0, x.1.now)) result (args_at tokens.now) }
+fn args(alloc: Global, tokens: Tokens<'_>) -> Read<'_, Items<Ident>>
+    ensures { ParsesAs result (args_at tokens.now) }
 {
     if let Ok(rest) = past(Kind::OpenBracket, tokens) {
         return idents(alloc, rest);
@@ -78,8 +74,8 @@ fn receiver_base(
     pointer: bool,
     base: Ident,
     tokens: Tokens<'_>,
-) -> Result<(Receiver, Tokens<'_>), Stop>
-    ensures { Gives (λ x. (x.0, x.1.now)) result (receiver_base name pointer base tokens.now) }
+) -> Read<'_, Receiver>
+    ensures { ParsesAs result (receiver_base name pointer base tokens.now) }
 {
     let (args, rest) = args(alloc, tokens)?;
     let receiver = Receiver {
@@ -92,24 +88,16 @@ fn receiver_base(
 }
 
 /// A receiver that is a pointer, after the star.
-fn receiver_pointer(
-    alloc: Global,
-    name: Option<Ident>,
-    tokens: Tokens<'_>,
-) -> Result<(Receiver, Tokens<'_>), Stop>
-    ensures { Gives (λ x. (x.0, x.1.now)) result (receiver_pointer name tokens.now) }
+fn receiver_pointer(alloc: Global, name: Option<Ident>, tokens: Tokens<'_>) -> Read<'_, Receiver>
+    ensures { ParsesAs result (receiver_pointer name tokens.now) }
 {
     let (base, rest) = ident(tokens)?;
     receiver_base(alloc, name, true, base, rest)
 }
 
 /// A receiver, after its first token, which is an identifier.
-fn receiver_first(
-    alloc: Global,
-    name: Ident,
-    tokens: Tokens<'_>,
-) -> Result<(Receiver, Tokens<'_>), Stop>
-    ensures { Gives (λ x. (x.0, x.1.now)) result (receiver_first name tokens.now) }
+fn receiver_first(alloc: Global, name: Ident, tokens: Tokens<'_>) -> Read<'_, Receiver>
+    ensures { ParsesAs result (receiver_first name tokens.now) }
 {
     if let Ok((base, rest)) = ident(tokens) {
         return receiver_base(alloc, Some(name), false, base, rest);
@@ -121,8 +109,8 @@ fn receiver_first(
 }
 
 /// A receiver, after its parenthesis.
-fn receiver(alloc: Global, tokens: Tokens<'_>) -> Result<(Receiver, Tokens<'_>), Stop>
-    ensures { Gives (λ x. (x.0, x.1.now)) result (receiver_at tokens.now) }
+fn receiver(alloc: Global, tokens: Tokens<'_>) -> Read<'_, Receiver>
+    ensures { ParsesAs result (receiver_at tokens.now) }
 {
     if let Ok(rest) = past(Kind::Star, tokens) {
         return receiver_pointer(alloc, None, rest);
@@ -132,12 +120,8 @@ fn receiver(alloc: Global, tokens: Tokens<'_>) -> Result<(Receiver, Tokens<'_>),
 }
 
 /// A function with its body, if one comes next.
-fn with_body(
-    alloc: Global,
-    func: FuncDecl,
-    tokens: Tokens<'_>,
-) -> Result<(FuncDecl, Tokens<'_>), Stop>
-    ensures { Gives (λ x. (x.0, x.1.now)) result (body_at func tokens.now) }
+fn with_body(alloc: Global, func: FuncDecl, tokens: Tokens<'_>) -> Read<'_, FuncDecl>
+    ensures { ParsesAs result (body_at func tokens.now) }
 {
     if let Ok(rest) = past(Kind::OpenBrace, tokens) {
         let rest = skipped(alloc, false, rest)?;
@@ -155,8 +139,8 @@ fn with_signature(
     tparams: Items<TParam>,
     tokens: Tokens<'_>,
     left: usize,
-) -> Result<(FuncDecl, Tokens<'_>), Stop>
-    ensures { Gives (λ x. (x.0, x.1.now)) result (func_sig left receiver name tparams tokens.now) }
+) -> Read<'_, FuncDecl>
+    ensures { ParsesAs result (func_sig left receiver name tparams tokens.now) }
 {
     let ((sig, _), rest) = signature(alloc, tokens, left)?;
     let func = FuncDecl {
@@ -174,20 +158,16 @@ fn named_method(
     receiver: Receiver,
     tokens: Tokens<'_>,
     left: usize,
-) -> Result<(FuncDecl, Tokens<'_>), Stop>
-    ensures { Gives (λ x. (x.0, x.1.now)) result (method_name left receiver tokens.now) }
+) -> Read<'_, FuncDecl>
+    ensures { ParsesAs result (method_name left receiver tokens.now) }
 {
     let (name, rest) = ident(tokens)?;
     with_signature(alloc, Some(receiver), name, Items::new(alloc), rest, left)
 }
 
 /// A function without a receiver, after its keyword.
-fn named_func(
-    alloc: Global,
-    tokens: Tokens<'_>,
-    left: usize,
-) -> Result<(FuncDecl, Tokens<'_>), Stop>
-    ensures { Gives (λ x. (x.0, x.1.now)) result (func_name left tokens.now) }
+fn named_func(alloc: Global, tokens: Tokens<'_>, left: usize) -> Read<'_, FuncDecl>
+    ensures { ParsesAs result (func_name left tokens.now) }
 {
     let (name, rest) = ident(tokens)?;
     let (tparams, rest) = generic(alloc, rest, left)?;
@@ -195,12 +175,8 @@ fn named_func(
 }
 
 /// A function or a method, after its keyword.
-pub(crate) fn func_decl(
-    alloc: Global,
-    tokens: Tokens<'_>,
-    left: usize,
-) -> Result<(FuncDecl, Tokens<'_>), Stop>
-    ensures { Gives (λ x. (x.0, x.1.now)) result (func_at left tokens.now) }
+pub(crate) fn func_decl(alloc: Global, tokens: Tokens<'_>, left: usize) -> Read<'_, FuncDecl>
+    ensures { ParsesAs result (func_at left tokens.now) }
 {
     if let Ok(rest) = past(Kind::OpenParen, tokens) {
         let (receiver, rest) = receiver(alloc, rest)?;

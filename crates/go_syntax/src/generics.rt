@@ -1,13 +1,14 @@
 ghost use Rattle.std.specs.Prelude.{◌≡◌};
-ghost use Rattle.go_syntax.specs.Reading.{Gives};
-ghost use Rattle.go_syntax.specs.Generics.{opens_params, constraint_at, tparam_type, tparam_first, tparam_at, tparams_row, tparams_at, generic_at};
+ghost use Rattle.go_expr_syntax.specs.Reading.{ParsesAs};
+ghost use Rattle.go_syntax.specs.Generics.{opens_params, constraint_at, tparam_type, tparam_first, tparam_at};
+ghost use Rattle.go_syntax.specs.Generics.{tparams_row, tparams_at, generic_at};
 
-use crate::elements::union_type;
-use crate::faults::Stop;
-use crate::names::more_names;
-use crate::reading::{Kind, ident, onward, past, single, start, starts, told_at};
-use crate::symbols::{Ident, Symbol, Tokens};
-use crate::tree::{TParam, TypeExpr};
+use crate::tree::TParam;
+use go_expr_syntax::{
+    Fit, Ident, Kind, Read, Stop, Symbol, Tokens, ident, more_names, onward, past, single, start,
+    starts, told_at,
+};
+use go_type_syntax::{TypeExpr, union_type};
 use sqlite_items::Items;
 use std::alloc::Global;
 
@@ -23,12 +24,8 @@ pub(crate) fn opens_params(tokens: Tokens<'_>) -> bool
 }
 
 /// A constraint, whose own first token tells a path that is too long.
-fn constraint(
-    alloc: Global,
-    tokens: Tokens<'_>,
-    left: usize,
-) -> Result<((TypeExpr, usize), Tokens<'_>), Stop>
-    ensures { Gives (λ x. (x.0, x.1.now)) result (constraint_at left tokens.now) }
+fn constraint(alloc: Global, tokens: Tokens<'_>, left: usize) -> Read<'_, Fit<TypeExpr>>
+    ensures { ParsesAs result (constraint_at left tokens.now) }
 {
     told_at(start(tokens), union_type(alloc, tokens, left))
 }
@@ -40,8 +37,8 @@ fn constrained(
     at: u32,
     tokens: Tokens<'_>,
     left: usize,
-) -> Result<(TParam, Tokens<'_>), Stop>
-    ensures { Gives (λ x. (x.0, x.1.now)) result (tparam_type left names at tokens.now) }
+) -> Read<'_, TParam>
+    ensures { ParsesAs result (tparam_type left names at tokens.now) }
 {
     let ((constraint, _), rest) = constraint(alloc, tokens, left)?;
     let tparam = TParam {
@@ -53,13 +50,8 @@ fn constrained(
 }
 
 /// Type parameters that share a constraint, after their first name.
-fn first_tparam(
-    alloc: Global,
-    first: Ident,
-    tokens: Tokens<'_>,
-    left: usize,
-) -> Result<(TParam, Tokens<'_>), Stop>
-    ensures { Gives (λ x. (x.0, x.1.now)) result (tparam_first left first tokens.now) }
+fn first_tparam(alloc: Global, first: Ident, tokens: Tokens<'_>, left: usize) -> Read<'_, TParam>
+    ensures { ParsesAs result (tparam_first left first tokens.now) }
 {
     if let Ok(rest) = past(Kind::Comma, tokens) {
         let (names, rest) = more_names(alloc, first, rest)?;
@@ -70,8 +62,8 @@ fn first_tparam(
 }
 
 /// Type parameters that share a constraint.
-fn one_tparam(alloc: Global, tokens: Tokens<'_>, left: usize) -> Result<(TParam, Tokens<'_>), Stop>
-    ensures { Gives (λ x. (x.0, x.1.now)) result (tparam_at left tokens.now) }
+fn one_tparam(alloc: Global, tokens: Tokens<'_>, left: usize) -> Read<'_, TParam>
+    ensures { ParsesAs result (tparam_at left tokens.now) }
 {
     let (first, rest) = ident(tokens)?;
     first_tparam(alloc, first, rest, left)
@@ -83,8 +75,8 @@ fn tparam_row(
     found: Items<TParam>,
     tokens: Tokens<'_>,
     left: usize,
-) -> Result<(Items<TParam>, Tokens<'_>), Stop>
-    ensures { Gives (λ x. (x.0, x.1.now)) result (tparams_row left found tokens.now) }
+) -> Read<'_, Items<TParam>>
+    ensures { ParsesAs result (tparams_row left found tokens.now) }
 {
     let mut found = found;
     let mut rest = tokens;
@@ -103,12 +95,8 @@ fn tparam_row(
 }
 
 /// Type parameters up to the bracket that closes, one at least.
-pub(crate) fn type_params(
-    alloc: Global,
-    tokens: Tokens<'_>,
-    left: usize,
-) -> Result<(Items<TParam>, Tokens<'_>), Stop>
-    ensures { Gives (λ x. (x.0, x.1.now)) result (tparams_at left tokens.now) }
+pub(crate) fn type_params(alloc: Global, tokens: Tokens<'_>, left: usize) -> Read<'_, Items<TParam>>
+    ensures { ParsesAs result (tparams_at left tokens.now) }
 {
     let (first, rest) = one_tparam(alloc, tokens, left)?;
     let found = single(alloc, first)?;
@@ -120,12 +108,8 @@ pub(crate) fn type_params(
 }
 
 /// The type parameters of a function, if they come next.
-pub(crate) fn generic(
-    alloc: Global,
-    tokens: Tokens<'_>,
-    left: usize,
-) -> Result<(Items<TParam>, Tokens<'_>), Stop>
-    ensures { Gives (λ x. (x.0, x.1.now)) result (generic_at left tokens.now) }
+pub(crate) fn generic(alloc: Global, tokens: Tokens<'_>, left: usize) -> Read<'_, Items<TParam>>
+    ensures { ParsesAs result (generic_at left tokens.now) }
 {
     if let Ok(rest) = past(Kind::OpenBracket, tokens) {
         return type_params(alloc, rest, left);

@@ -1,22 +1,26 @@
 ghost use Rattle.std.specs.Prelude.{◌≡◌, ◌≤◌, ℕ, [], length, IfOk, IfErr};
-ghost use Rattle.go_syntax.specs.Reading.{Gives};
+ghost use Rattle.go_expr_syntax.specs.Reading.{Gives};
 ghost use Rattle.go_syntax.specs.Files.{file_at};
 ghost use Rattle.go_syntax.specs.Decls.{IsFileOf};
 ghost use Rattle.go_syntax.specs.Outcomes.{IsFile};
-ghost use Rattle.go_syntax.specs.Source.{symbols_of, place_of};
+ghost use Rattle.go_expr_syntax.specs.TokenView.{symbols_of, place_of};
 ghost use Rattle.go_syntax.specs.Parsing.{fault_of, answer_of, Tells, Answers, reading_of, IsReading};
 ghost use Rattle.go_syntax.specs.declared.tree.SourceFile.{SourceFile};
+ghost use Rattle.go_syntax.specs.declared.parsing.TheConstants.{MAX_DEPTH};
+ghost use Rattle.go_lexer.specs.declared.lexing.TheConstants.{SOURCE_LIMIT};
 
-use crate::faults::{Fault, Stop};
 use crate::files::read_file;
-use crate::source::symbols;
 use crate::tree::SourceFile;
+use go_expr_syntax::{Fault, Stop, symbols_of};
 use go_lexer::Token;
 use std::alloc::Global;
 
-/// What a fault says that is left out.
+/// The most nodes on a path in the tree of a type or an expression.
+pub const MAX_DEPTH: usize = 1_000;
+
+/// What is left out, as a fault tells it.
 #[derive(Clone, Copy, Debug, PartialEq, Eq)]
-pub enum What {
+pub enum LeftOutKind {
     /// An import of all the names of a package.
     DotImport,
     /// A call, or a conversion by what is no name of a type.
@@ -31,14 +35,14 @@ pub enum SyntaxFault {
     /// With the token there the tokens begin no file. At the length of the source, they begin one, and are none.
     Unexpected { at: u32 },
     /// With the token there the file has what is left out.
-    LeftOut { at: u32, what: What },
+    LeftOut { at: u32, what: LeftOutKind },
     /// There is not enough memory for the tree.
     OutOfMemory,
 }
 
 /// The place at which this many tokens are left.
 fn place(src: &[u8], tokens: &[Token], left: usize) -> u32
-    requires { length src.now ≤ 4194304 }
+    requires { length src.now ≤ SOURCE_LIMIT }
     ensures { result ≡ place_of src.now tokens.now left }
 {
     match tokens.get(tokens.len().saturating_sub(left)) {
@@ -49,7 +53,7 @@ fn place(src: &[u8], tokens: &[Token], left: usize) -> u32
 
 /// A fault at its place in the source.
 fn fault_of(src: &[u8], tokens: &[Token], fault: Fault) -> SyntaxFault
-    requires { length src.now ≤ 4194304 }
+    requires { length src.now ≤ SOURCE_LIMIT }
     ensures { result ≡ fault_of src.now tokens.now fault }
 {
     match fault {
@@ -58,25 +62,25 @@ fn fault_of(src: &[u8], tokens: &[Token], fault: Fault) -> SyntaxFault
         },
         Fault::Deep(_, at) => SyntaxFault::LeftOut {
             at,
-            what: What::Depth,
+            what: LeftOutKind::Depth,
         },
         Fault::DotImport(left) => SyntaxFault::LeftOut {
             at: place(src, tokens, left),
-            what: What::DotImport,
+            what: LeftOutKind::DotImport,
         },
         Fault::Call(_, at) => SyntaxFault::LeftOut {
             at,
-            what: What::Call,
+            what: LeftOutKind::Call,
         },
     }
 }
 
 /// The file that the tokens of a source are, or where reading stops.
 fn read_source(alloc: Global, src: &[u8], tokens: &[Token]) -> Result<SourceFile, Stop>
-    ensures { Gives (λ f. f) result (file_at 1000 (symbols_of src.now tokens.now)) }
+    ensures { Gives (λ f. f) result (file_at MAX_DEPTH (symbols_of src.now tokens.now)) }
 {
-    let symbols = symbols(alloc, src, tokens)?;
-    read_file(alloc, &symbols, 1000)
+    let symbols = symbols_of(alloc, src, tokens)?;
+    read_file(alloc, &symbols, MAX_DEPTH)
 }
 
 /// What is answered of a reading.
@@ -85,7 +89,7 @@ fn answer_of(
     tokens: &[Token],
     read: Result<SourceFile, Stop>,
 ) -> Result<SourceFile, SyntaxFault>
-    requires { length src.now ≤ 4194304 }
+    requires { length src.now ≤ SOURCE_LIMIT }
     ensures { result ≡ answer_of src.now tokens.now read }
 {
     match read {
@@ -97,13 +101,15 @@ fn answer_of(
 
 /// The tree of a file, whose tokens these are. It takes time in proportion to the tokens.
 pub fn parse(alloc: Global, src: &[u8], tokens: &[Token]) -> Result<SourceFile, SyntaxFault>
-    requires { length src.now ≤ 4194304 }
+    requires { length src.now ≤ SOURCE_LIMIT }
     // The tokens are the file that is answered.
     ensures found { IfOk result (λ f. IsFile (symbols_of src.now tokens.now) f) }
     // A file with no path of more than 1,000 nodes is answered, unless memory ran out, and no other.
-    ensures only { (m : ℕ) (f : SourceFile) → IsFileOf m (symbols_of src.now tokens.now) f [] → m ≤ 1000 → Answers result f }
+    ensures only { (m : ℕ) (f : SourceFile) → IsFileOf m (symbols_of src.now tokens.now) f [] → m ≤ MAX_DEPTH
+        → Answers result f }
     // No path of what is answered is longer.
-    ensures within { IfOk result (λ x. (m : ℕ) (f : SourceFile) → IsFileOf m (symbols_of src.now tokens.now) f [] → m ≤ 1000) }
+    ensures within { IfOk result (λ x. (m : ℕ) (f : SourceFile) → IsFileOf m (symbols_of src.now tokens.now) f []
+        → m ≤ MAX_DEPTH) }
     // At each fault's place the tokens are what it says.
     ensures place { IfErr result (λ s. Tells src.now tokens.now s) }
     // The file and each fault, with its place, are what reading from the front gives, unless memory ran out.

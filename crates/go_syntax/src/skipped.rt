@@ -1,15 +1,13 @@
 ghost use Rattle.std.specs.Prelude.{◌≡◌, [], reverse, IfOk};
-ghost use Rattle.go_syntax.specs.Reading.{Gives, Exactly};
+ghost use Rattle.go_expr_syntax.specs.Reading.{Gives, Exactly};
 ghost use Rattle.go_syntax.specs.Skipped.{opened, closed, same, stands_outside, skip, Steps};
 
-use crate::faults::{Fault, Stop};
-use crate::reading::{Kind, starts};
-use crate::symbols::{Symbol, Tokens};
+use go_expr_syntax::{Fault, Kind, Stop, Symbol, Tokens, starts};
 use sqlite_items::Items;
 use std::alloc::{AllocError, Global};
 
 /// A kind of bracket.
-#[derive(Clone, Copy, Debug)]
+#[derive(Clone, Copy)]
 pub(crate) enum Bracket {
     Round,
     Square,
@@ -17,7 +15,7 @@ pub(crate) enum Bracket {
 }
 
 /// What a token does to a text that is skipped.
-#[derive(Clone, Copy, Debug)]
+#[derive(Clone, Copy)]
 pub(crate) enum Step {
     /// The text goes on.
     Goes,

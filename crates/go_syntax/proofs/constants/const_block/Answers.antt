@@ -1,8 +1,8 @@
 use Rattle.std.proofs.lemmas.Result.{err_from_is_err_and}
-use Rattle.go_syntax.specs.Reading.{row, is_close_paren}
+use Rattle.go_expr_syntax.specs.Reading.{row, is_close_paren}
 use Rattle.go_syntax.specs.Constants.{const_spec_at}
 use Rattle.go_syntax.specs.Files.{counting}
-use Rattle.go_syntax.proofs.Turns.{turn_smaller}
+use Rattle.go_expr_syntax.proofs.Turns.{turn_smaller}
 use Rattle.go_syntax.proofs.ConstReads.{const_eats}
 use Rattle.go_syntax.proofs.ConstTurns.{count_closed, count_stops, count_last, count_stuck, count_more}
 use Rattle.go_syntax.proofs.constants.const_block.Goals as goal

@@ -1,5 +1,5 @@
 use Rattle.std.proofs.Common.{◌≡◌, length}
-use Rattle.go_syntax.specs.Reading.{row, is_close_paren}
+use Rattle.go_expr_syntax.specs.Reading.{row, is_close_paren}
 use Rattle.go_syntax.specs.Constants.{const_spec_at}
 use Rattle.go_syntax.specs.Files.{counting}
 use Rattle.go_syntax.proofs.ConstTurns.{counts_on}

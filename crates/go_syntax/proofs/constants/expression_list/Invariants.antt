@@ -1,6 +1,6 @@
 use Rattle.std.proofs.Common.{◌≡◌, length}
 use Rattle.go_syntax.specs.Constants.{exprs_at}
-use Rattle.go_syntax.proofs.Turns.{with_front}
+use Rattle.go_expr_syntax.proofs.Turns.{with_front}
 use Rattle.go_syntax.proofs.constants.expression_list.Given as goal
 
 abbrev pub invariant-loop-found : goal.invariant-loop-found

@@ -1,7 +1,7 @@
 use Rattle.std.proofs.Common.{◌≡◌, length}
-use Rattle.go_syntax.specs.Reading.{row, is_close_paren}
+use Rattle.go_expr_syntax.specs.Reading.{row, is_close_paren}
 use Rattle.go_syntax.specs.Files.{import_at}
-use Rattle.go_syntax.proofs.Turns.{so_far}
+use Rattle.go_expr_syntax.proofs.Turns.{so_far}
 use Rattle.go_syntax.proofs.decls.import_block.Given as goal
 
 abbrev pub invariant-loop-after : goal.invariant-loop-after

@@ -1,8 +1,8 @@
 use Rattle.std.proofs.lemmas.Result.{err_from_is_err_and}
-use Rattle.go_syntax.specs.Reading.{row, is_close_paren}
+use Rattle.go_expr_syntax.specs.Reading.{row, is_close_paren}
 use Rattle.go_syntax.specs.Specs.{spec_of}
 use Rattle.go_syntax.proofs.SpecTurns.{spec_eats}
-use Rattle.go_syntax.proofs.Turns.{turn_closed, turn_stops, turn_last, turn_stuck, turn_more, turn_smaller}
+use Rattle.go_expr_syntax.proofs.Turns.{turn_closed, turn_stops, turn_last, turn_stuck, turn_more, turn_smaller}
 use Rattle.go_syntax.proofs.decls.spec_block.Goals as goal
 
 pub returns-in-Ok : goal.returns-in-Ok

@@ -1,10 +1,10 @@
 use Rattle.std.proofs.Common.{◌++◌, ◌∙◌, ap}
 use Rattle.std.proofs.lemmas.List.{append-nil}
 use Rattle.std.proofs.lemmas.Result.{err_from_is_err_and}
-use Rattle.go_syntax.specs.Names.{ident_at}
+use Rattle.go_expr_syntax.specs.Names.{ident_at}
 use Rattle.go_syntax.specs.Functions.{idents, idents_row}
 use Rattle.go_syntax.proofs.FuncReads.{ident_eats}
-use Rattle.go_syntax.proofs.Turns.{gives, series_closed, series_fails, series_last, series_stuck}
+use Rattle.go_expr_syntax.proofs.Turns.{gives, series_closed, series_fails, series_last, series_stuck}
 use Rattle.go_syntax.proofs.FuncTurns.{idents_more}
 use Rattle.go_syntax.proofs.functions.ident_row.Goals as goal
 

@@ -1,7 +1,7 @@
 use Rattle.std.proofs.Common.{ℕ, subst}
-use Rattle.go_syntax.specs.Reading.{told_at, Gives}
-use Rattle.go_syntax.specs.Elements.{union_at}
-use Rattle.go_syntax.specs.Types.{type_at, lower_at}
+use Rattle.go_expr_syntax.specs.Reading.{told_at, Gives}
+use Rattle.go_type_syntax.specs.Elements.{union_at}
+use Rattle.go_type_syntax.specs.Types.{type_at, lower_at}
 use Rattle.go_syntax.proofs.generics.constraint.Goals as goal
 
 pub returns : goal.returns

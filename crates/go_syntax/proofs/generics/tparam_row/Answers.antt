@@ -1,10 +1,10 @@
 use Rattle.std.proofs.Common.{◌++◌, ◌∙◌, ap}
 use Rattle.std.proofs.lemmas.List.{append-nil}
 use Rattle.std.proofs.lemmas.Result.{err_from_is_err_and}
-use Rattle.go_syntax.specs.Reading.{is_comma}
+use Rattle.go_expr_syntax.specs.Reading.{is_comma}
 use Rattle.go_syntax.specs.Generics.{tparam_at, tparams, tparams_row}
 use Rattle.go_syntax.proofs.GenericReads.{tparam_eats}
-use Rattle.go_syntax.proofs.Turns.{gives, series_closed, series_stops, series_last, series_stuck, series_smaller}
+use Rattle.go_expr_syntax.proofs.Turns.{gives, series_closed, series_stops, series_last, series_stuck, series_smaller}
 use Rattle.go_syntax.proofs.GenericTurns.{tparams_more}
 use Rattle.go_syntax.proofs.generics.tparam_row.Goals as goal
 

@@ -1,0 +1,14 @@
+pub mod Viable
+pub mod Uncons
+pub mod EitherReads
+pub mod Marks
+pub mod Steps
+pub mod Rows
+pub mod NameReads
+pub mod OperandReads
+pub mod ExprReads
+pub mod ExprTurns
+pub mod Turns
+pub mod NameTurns
+pub mod Agreeing
+pub mod ExprAgain

@@ -1,0 +1,32 @@
+-- Steps that come again and again: their number never shows, and they do what each step does.
+use Rattle.std.proofs.Common.{◌≡◌, ℕ, zero, suc, ◌<◌, length, List, sym, subst, arith}
+use Rattle.go_expr_syntax.specs.declared.symbols.Symbol.{Symbol}
+use Rattle.go_expr_syntax.specs.Reading.{Reply, steps_of, steps}
+use Rattle.go_expr_syntax.proofs.Viable.{ReadsAt, like_reads}
+
+-- a step asks for what comes later alone
+abbrev pub Local : {Y : Type 0} → ((List Symbol → Reply Y) → List Symbol → Reply Y) → Type 0
+Local {Y} step = (f g : List Symbol → Reply Y) (ts : List Symbol) → ((vs : List Symbol) → length vs < length ts → f vs ≡ g vs) → step f ts ≡ step g ts
+
+enough : {Y : Type 0} (step : (List Symbol → Reply Y) → List Symbol → Reply Y) → Local step → (f g : ℕ) (ts : List Symbol) → length ts < f → length ts < g → steps_of f step ts ≡ steps_of g step ts
+unfolding steps_of
+enough step local zero g ts a b = absurd (omega arith)
+enough step local (suc f) zero ts a b = absurd (omega arith)
+enough step local (suc f) (suc g) ts a b = local (steps_of f step) (steps_of g step) ts (λ vs less. enough step local f g vs (omega arith) (omega arith))
+
+pub steps_is : {Y : Type 0} (step : (List Symbol → Reply Y) → List Symbol → Reply Y) → Local step → (ts : List Symbol) → steps step ts ≡ step (steps step) ts
+unfolding steps_of
+steps_is step local ts = local (steps_of (length ts) step) (steps step) ts (λ vs less. enough step local (length ts) (suc (length vs)) vs less (omega arith))
+
+steps_up : {Y : Type 0} (Q : List Symbol → Y → List Symbol → Type 0) (step : (List Symbol → Reply Y) → List Symbol → Reply Y) → Local step
+    → ((more : List Symbol → Reply Y) (ts : List Symbol) → ((vs : List Symbol) → length vs < length ts → ReadsAt Q more vs (more vs)) → ReadsAt Q (step more) ts (step more ts))
+    → (n : ℕ) (ts : List Symbol) → length ts < n → ReadsAt Q (steps step) ts (steps step ts)
+steps_up Q step local h zero ts less = absurd (omega arith)
+steps_up Q step local h (suc n) ts less =
+    like_reads Q (steps step) (step (steps step)) ts (steps step ts) (λ r e. steps_is step local r)
+    (subst (ReadsAt Q (step (steps step)) ts) (sym (steps_is step local ts)) (h (steps step) ts (λ vs fewer. steps_up Q step local h n vs (omega arith))))
+
+pub steps_read : {Y : Type 0} (Q : List Symbol → Y → List Symbol → Type 0) (step : (List Symbol → Reply Y) → List Symbol → Reply Y) → Local step
+    → ((more : List Symbol → Reply Y) (ts : List Symbol) → ((vs : List Symbol) → length vs < length ts → ReadsAt Q more vs (more vs)) → ReadsAt Q (step more) ts (step more ts))
+    → (ts : List Symbol) → ReadsAt Q (steps step) ts (steps step ts)
+steps_read Q step local h ts = steps_up Q step local h (suc (length ts)) ts (omega arith)

@@ -1,0 +1,355 @@
+-- What a reader does, whichever tokens follow: what it reads stands there, it looks no further than the token at which it stops,
+-- and what stands before a token that it refuses can be completed.
+use Rattle.std.proofs.Common.{◌≡◌, ℕ, ◌<◌, Bool, true, false, if◌then◌else◌, List, [], ◌∷◌, ◌++◌, length, Option, Some, None, Ok, Err, refl, sym, ap, subst, ◌∙◌, append_assoc, arith, length-append}
+use Rattle.go_expr_syntax.specs.declared.symbols.Symbol.{Symbol}
+use Rattle.go_expr_syntax.specs.declared.faults.Fault.{Fault}
+use Rattle.go_expr_syntax.specs.declared.faults.Fault.TheVariants.{Unexpected, Deep, DotImport, Call}
+use Rattle.go_expr_syntax.specs.Reading.{Reply, ◌>>=◌, symbol_start, start_of, told_at, from_start, unexpected, too_deep, past, choose, starts, peek}
+
+abbrev pub ahead : List Symbol → Option Symbol
+ahead [] = None
+ahead (k ∷ ts) = Some k
+
+-- the same fault at another place
+abbrev pub moved : Fault → ℕ → Fault
+moved (Unexpected k) n = Unexpected n
+moved (Deep k began) n = Deep n began
+moved (DotImport k) n = DotImport n
+moved (Call k at) n = Call n at
+
+-- tokens that stand for something
+pub record Sample {X : Type 0} (F : List Symbol → X → List Symbol → Type 0) : Type 0 where
+  pub tokens : List Symbol
+  pub made : X
+  pub stands : (tail : List Symbol) → F (tokens ++ tail) made tail
+
+pub record ReadOk {X : Type 0} (F : List Symbol → X → List Symbol → Type 0) (p : List Symbol → Reply X) (ts : List Symbol) (x : X) (rest : List Symbol) : Type 0 where
+  pub front : List Symbol
+  pub split : ts ≡ front ++ rest
+  pub stands : (tail : List Symbol) → F (front ++ tail) x tail
+  pub stays : (r : List Symbol) → ahead rest ≡ ahead r → p (front ++ r) ≡ Ok (x, r)
+
+pub record ReadNot {X : Type 0} (F : List Symbol → X → List Symbol → Type 0) (p : List Symbol → Reply X) (ts : List Symbol) (f : Fault) : Type 0 where
+  pub front : List Symbol
+  pub rest : List Symbol
+  pub split : ts ≡ front ++ rest
+  pub place : f ≡ moved f (length rest)
+  pub stays : (r : List Symbol) → ahead rest ≡ ahead r → p (front ++ r) ≡ Err (moved f (length r))
+  pub more : List Symbol
+  pub made : X
+  pub completes : (tail : List Symbol) → F (front ++ (more ++ tail)) made tail
+
+abbrev pub ReadsAt : {X : Type 0} → (List Symbol → X → List Symbol → Type 0) → (List Symbol → Reply X) → List Symbol → Reply X → Type 0
+ReadsAt F p ts (Ok y) = ReadOk F p ts y.0 y.1
+ReadsAt F p ts (Err f) = ReadNot F p ts f
+
+-- ---- what stands next
+
+pub next_is : (P : List Symbol → Type 0) (k : Symbol) → ((r : List Symbol) → P (k ∷ r)) → (r : List Symbol) → Some k ≡ ahead r → P r
+next_is P k h [] e = absurd cc
+next_is P k h (j ∷ r) e = let same : k ≡ j = cc in subst (λ i. P (i ∷ r)) same (h r)
+
+pub ends_so : (P : List Symbol → Type 0) → P [] → (r : List Symbol) → None ≡ ahead r → P r
+ends_so P h [] e = h
+ends_so P h (j ∷ r) e = absurd cc
+
+pub start_same : (ts r : List Symbol) → ahead ts ≡ ahead r → start_of ts ≡ start_of r
+start_same [] [] e = refl
+start_same [] (k ∷ r) e = absurd cc
+start_same (k ∷ ts) [] e = absurd cc
+start_same (k ∷ ts) (j ∷ r) e = let same : k ≡ j = cc in ap symbol_start same
+
+pub ahead_along : (front us r : List Symbol) → ahead us ≡ ahead r → ahead (front ++ us) ≡ ahead (front ++ r)
+ahead_along [] us r e = e
+ahead_along (k ∷ front) us r e = refl
+
+-- ---- no token
+
+pub done_reads : {X : Type 0} (F : List Symbol → X → List Symbol → Type 0) (p : List Symbol → Reply X) (ts : List Symbol) (x : X) → ((tail : List Symbol) → F tail x tail)
+    → ((r : List Symbol) → ahead ts ≡ ahead r → p r ≡ Ok (x, r)) → ReadOk F p ts x ts
+done_reads F p ts x h e = record { front = []; split = refl; stands = h; stays = e }
+
+pub refuse_reads : {X : Type 0} (F : List Symbol → X → List Symbol → Type 0) (p : List Symbol → Reply X) (ts : List Symbol) (f : Fault) → Sample F → f ≡ moved f (length ts)
+    → ((r : List Symbol) → ahead ts ≡ ahead r → p r ≡ Err (moved f (length r))) → ReadNot F p ts f
+refuse_reads F p ts f s e same = record { front = []; rest = ts; split = refl; place = e; stays = same; more = s.tokens; made = s.made; completes = s.stands }
+
+-- a token that begins nothing here, and the end
+pub refuse_next : {X : Type 0} (F : List Symbol → X → List Symbol → Type 0) (p : List Symbol → Reply X) (k : Symbol) (ts : List Symbol) → Sample F
+    → ((r : List Symbol) → p (k ∷ r) ≡ unexpected (k ∷ r)) → ReadNot F p (k ∷ ts) (Unexpected (length (k ∷ ts)))
+refuse_next F p k ts s e = refuse_reads F p (k ∷ ts) _ s refl (next_is (λ r. p r ≡ unexpected r) k e)
+
+pub refuse_end : {X : Type 0} (F : List Symbol → X → List Symbol → Type 0) (p : List Symbol → Reply X) → Sample F
+    → p [] ≡ unexpected [] → ReadNot F p [] (Unexpected (length {A = Symbol} []))
+refuse_end F p s e = refuse_reads F p [] _ s refl (ends_so (λ r. p r ≡ unexpected r) e)
+
+pub deep_next : {X : Type 0} (F : List Symbol → X → List Symbol → Type 0) (p : List Symbol → Reply X) (k : Symbol) (ts : List Symbol) → Sample F
+    → ((r : List Symbol) → p (k ∷ r) ≡ too_deep (k ∷ r)) → ReadNot F p (k ∷ ts) (Deep (length (k ∷ ts)) (symbol_start k))
+deep_next F p k ts s e = refuse_reads F p (k ∷ ts) _ s refl (next_is (λ r. p r ≡ Err (Deep (length r) (symbol_start k))) k e)
+
+-- ---- another reader, another relation
+
+-- p is q wherever the next token is this one
+pub like_reads : {X : Type 0} (F : List Symbol → X → List Symbol → Type 0) (p q : List Symbol → Reply X) (ts : List Symbol) (reply : Reply X)
+    → ((r : List Symbol) → ahead ts ≡ ahead r → p r ≡ q r) → ReadsAt F q ts reply → ReadsAt F p ts reply
+like_reads F p q ts (Ok y) same h = record {
+  front = h.front;
+  split = h.split;
+  stands = h.stands;
+  stays = λ r e. same (h.front ++ r) (ap ahead h.split ∙ ahead_along h.front y.1 r e) ∙ h.stays r e;
+}
+like_reads F p q ts (Err f) same h = record {
+  front = h.front;
+  rest = h.rest;
+  split = h.split;
+  place = h.place;
+  stays = λ r e. same (h.front ++ r) (ap ahead h.split ∙ ahead_along h.front h.rest r e) ∙ h.stays r e;
+  more = h.more;
+  made = h.made;
+  completes = h.completes;
+}
+
+pub as_reads : {X : Type 0} (F G : List Symbol → X → List Symbol → Type 0) (p : List Symbol → Reply X) (ts : List Symbol) (reply : Reply X)
+    → ((us : List Symbol) (x : X) (rest : List Symbol) → F us x rest → G us x rest) → ReadsAt F p ts reply → ReadsAt G p ts reply
+as_reads F G p ts (Ok y) join h = record { front = h.front; split = h.split; stands = λ tail. join _ _ _ (h.stands tail); stays = h.stays }
+as_reads F G p ts (Err f) join h = record {
+  front = h.front;
+  rest = h.rest;
+  split = h.split;
+  place = h.place;
+  stays = h.stays;
+  more = h.more;
+  made = h.made;
+  completes = λ tail. join _ _ _ (h.completes tail);
+}
+
+-- ---- a token, and then q
+
+abbrev pub Behind : {X : Type 0} → Symbol → (List Symbol → X → List Symbol → Type 0) → List Symbol → X → List Symbol → Type 0
+Behind k H us x rest = H (k ∷ us) x rest
+
+pub cons_reads : {X : Type 0} (H : List Symbol → X → List Symbol → Type 0) (p q : List Symbol → Reply X) (k : Symbol) (ts : List Symbol) (reply : Reply X)
+    → ((r : List Symbol) → p (k ∷ r) ≡ q r) → ReadsAt (Behind k H) q ts reply → ReadsAt H p (k ∷ ts) reply
+cons_reads H p q k ts (Ok y) same h = record {
+  front = k ∷ h.front;
+  split = ap (λ (us : List Symbol). k ∷ us) h.split;
+  stands = h.stands;
+  stays = λ r e. same (h.front ++ r) ∙ h.stays r e;
+}
+cons_reads H p q k ts (Err f) same h = record {
+  front = k ∷ h.front;
+  rest = h.rest;
+  split = ap (λ (us : List Symbol). k ∷ us) h.split;
+  place = h.place;
+  stays = λ r e. same (h.front ++ r) ∙ h.stays r e;
+  more = h.more;
+  made = h.made;
+  completes = h.completes;
+}
+
+-- a kind of token
+pub record Kind (is : Symbol → Bool) : Type 0 where
+  pub make : ℕ → Symbol
+  pub holds : (at : ℕ) → is (make at) ≡ true
+  pub only : (k : Symbol) → is k ≡ true → (at : ℕ) × (k ≡ make at)
+
+abbrev pub Past : {X : Type 0} {is : Symbol → Bool} → Kind is → (List Symbol → X → List Symbol → Type 0) → List Symbol → X → List Symbol → Type 0
+Past K H us x rest = (at : ℕ) → H (K.make at ∷ us) x rest
+
+abbrev pub past_then : {X : Type 0} → (Symbol → Bool) → (List Symbol → Reply X) → List Symbol → Reply X
+past_then is q ts = past is ts >>= q
+
+past_end : {X : Type 0} (is : Symbol → Bool) (H : List Symbol → X → List Symbol → Type 0) (K : Kind is) (q : List Symbol → Reply X) → Sample (Past K H) → ReadsAt H (past_then is q) [] (past_then is q [])
+past_end is H K q s = refuse_end H (past_then is q) (record { tokens = K.make 0 ∷ s.tokens; made = s.made; stands = λ tail. s.stands tail 0 }) refl
+
+abbrev behind_if : {X : Type 0} → Bool → Symbol → List Symbol → (List Symbol → Reply X) → Reply X
+behind_if b k ts q = (if b then Ok ts else unexpected (k ∷ ts)) >>= q
+
+past_next : {X : Type 0} (is : Symbol → Bool) (H : List Symbol → X → List Symbol → Type 0) (K : Kind is) (q : List Symbol → Reply X) (k : Symbol) (ts : List Symbol) (b : Bool) → is k ≡ b
+    → Sample (Past K H) → ReadsAt (Past K H) q ts (q ts) → ReadsAt H (past_then is q) (k ∷ ts) (behind_if b k ts q)
+past_next is H K q k ts true e s h =
+    let o = K.only k e in
+    cons_reads H (past_then is q) q k ts (q ts) (λ r. rw e refl)
+    (as_reads (Past K H) (Behind k H) q ts (q ts) (λ us x rest w. subst (λ j. H (j ∷ us) x rest) (sym o.1) (w o.0)) h)
+past_next is H K q k ts false e s h =
+    refuse_next H (past_then is q) k ts (record { tokens = K.make 0 ∷ s.tokens; made = s.made; stands = λ tail. s.stands tail 0 }) (λ r. rw e refl)
+
+pub past_reads : {X : Type 0} (is : Symbol → Bool) (H : List Symbol → X → List Symbol → Type 0) (K : Kind is) (q : List Symbol → Reply X) (ts : List Symbol) → Sample (Past K H)
+    → ((k : Symbol) (us : List Symbol) → ts ≡ k ∷ us → ReadsAt (Past K H) q us (q us)) → ReadsAt H (past_then is q) ts (past_then is q ts)
+past_reads is H K q [] s h = past_end is H K q s
+past_reads is H K q (k ∷ ts) s h = past_next is H K q k ts (is k) refl s (h k ts refl)
+
+-- ---- p, and then q
+
+abbrev pub After : {A B : Type 0} → (List Symbol → A → List Symbol → Type 0) → (List Symbol → B → List Symbol → Type 0) → A → List Symbol → B → List Symbol → Type 0
+After F H a us b rest = (ts : List Symbol) → F ts a us → H ts b rest
+
+abbrev pub bound : {A B : Type 0} → (List Symbol → Reply A) → (A → List Symbol → Reply B) → List Symbol → Reply B
+bound p q ts = p ts >>= λ z. q z.0 z.1
+
+then_reads : {A B : Type 0} (F : List Symbol → A → List Symbol → Type 0) (H : List Symbol → B → List Symbol → Type 0) (p : List Symbol → Reply A) (q : A → List Symbol → Reply B) (ts : List Symbol)
+    (a : A) (us : List Symbol) → ReadOk F p ts a us → (reply : Reply B) → ReadsAt (After F H a) (q a) us reply → ReadsAt H (bound p q) ts reply
+then_reads F H p q ts a us h (Ok z) g = record {
+  front = h.front ++ g.front;
+  split = h.split ∙ ap (λ (vs : List Symbol). h.front ++ vs) g.split ∙ sym (append_assoc h.front g.front z.1);
+  stands = λ tail. rw append_assoc (g.stands tail (h.front ++ (g.front ++ tail)) (h.stands (g.front ++ tail)));
+  stays = λ r e. ap (bound p q) (append_assoc h.front g.front r) ∙ ap (λ (m : Reply _). m >>= λ z. q z.0 z.1) (h.stays (g.front ++ r) (ap ahead g.split ∙ ahead_along g.front z.1 r e)) ∙ g.stays r e;
+}
+then_reads F H p q ts a us h (Err f) g = record {
+  front = h.front ++ g.front;
+  rest = g.rest;
+  split = h.split ∙ ap (λ (vs : List Symbol). h.front ++ vs) g.split ∙ sym (append_assoc h.front g.front g.rest);
+  place = g.place;
+  stays = λ r e. ap (bound p q) (append_assoc h.front g.front r) ∙ ap (λ (m : Reply _). m >>= λ z. q z.0 z.1) (h.stays (g.front ++ r) (ap ahead g.split ∙ ahead_along g.front g.rest r e)) ∙ g.stays r e;
+  more = g.more;
+  made = g.made;
+  completes = λ tail. rw append_assoc (g.completes tail (h.front ++ (g.front ++ (g.more ++ tail))) (h.stands (g.front ++ (g.more ++ tail))));
+}
+
+pub bind_reads : {A B : Type 0} (F : List Symbol → A → List Symbol → Type 0) (H : List Symbol → B → List Symbol → Type 0) (p : List Symbol → Reply A) (q : A → List Symbol → Reply B) (ts : List Symbol)
+    → ((a : A) → Sample (After F H a)) → ((a : A) (us : List Symbol) → ReadOk F p ts a us → ReadsAt (After F H a) (q a) us (q a us))
+    → (reply : Reply A) → ReadsAt F p ts reply → ReadsAt H (bound p q) ts (reply >>= λ z. q z.0 z.1)
+bind_reads F H p q ts s g (Ok z) h = then_reads F H p q ts z.0 z.1 h (q z.0 z.1) (g z.0 z.1 h)
+bind_reads F H p q ts s g (Err f) h =
+    let more = s h.made in
+    record {
+      front = h.front;
+      rest = h.rest;
+      split = h.split;
+      place = h.place;
+      stays = λ r e. ap (λ (m : Reply _). m >>= λ z. q z.0 z.1) (h.stays r e);
+      more = h.more ++ more.tokens;
+      made = more.made;
+      completes = λ tail. rw append_assoc (more.stands tail (h.front ++ (h.more ++ (more.tokens ++ tail))) (h.completes (more.tokens ++ tail)));
+    }
+
+-- p, and then a value made of what it read
+pub value_reads : {A B : Type 0} (F : List Symbol → A → List Symbol → Type 0) (H : List Symbol → B → List Symbol → Type 0) (p : List Symbol → Reply A) (v : A → B) (ts : List Symbol)
+    → ((us : List Symbol) (a : A) (rest : List Symbol) → F us a rest → H us (v a) rest) → (reply : Reply A) → ReadsAt F p ts reply → ReadsAt H (λ us. p us >>= λ z. Ok (v z.0, z.1)) ts (reply >>= λ z. Ok (v z.0, z.1))
+value_reads F H p v ts join reply h =
+    bind_reads F H p (λ a us. Ok (v a, us)) ts
+    (λ a. record { tokens = []; made = v a; stands = λ tail us w. join us a tail w })
+    (λ a us o. done_reads (After F H a) (λ r. Ok (v a, r)) us (v a) (λ tail vs w. join vs a tail w) (λ r e. refl))
+    reply h
+
+-- ---- a choice by the next token
+
+pub stuck_reads : {X : Type 0} (F : List Symbol → X → List Symbol → Type 0) (ts : List Symbol) → Sample F → ReadsAt F unexpected ts (unexpected ts)
+stuck_reads F ts s = refuse_reads F unexpected ts _ s refl (λ r e. refl)
+
+pub deep_reads : {X : Type 0} (F : List Symbol → X → List Symbol → Type 0) (ts : List Symbol) → Sample F → ReadsAt F too_deep ts (too_deep ts)
+deep_reads F ts s = refuse_reads F too_deep ts _ s refl (λ r e. ap (λ (at : ℕ). Err (Deep (length r) at)) (sym (start_same ts r e)))
+
+-- ---- a path that is too long, told at the first token
+
+-- another reader that answers so at one place, whatever follows
+abbrev Tells : {X : Type 0} → (List Symbol → Reply X) → (List Symbol → Reply X) → List Symbol → ℕ → Type 0
+Tells {X} p other ts at = (front rest r : List Symbol) (reply : Reply X) → ts ≡ front ++ rest → ahead rest ≡ ahead r → p (front ++ r) ≡ reply → other (front ++ r) ≡ told_at at reply
+
+told_not : {X : Type 0} (F : List Symbol → X → List Symbol → Type 0) (p other : List Symbol → Reply X) (ts : List Symbol) (at : ℕ) → Tells p other ts at → (f g : Fault) → (h : ReadNot F p ts f) → g ≡ moved g (length h.rest)
+    → ((n : ℕ) → told_at {X = X} at (Err (moved f n)) ≡ Err (moved g n)) → ReadNot F other ts g
+told_not F p other ts at tells f g h place same = record {
+  front = h.front;
+  rest = h.rest;
+  split = h.split;
+  place = place;
+  stays = λ r e. tells h.front h.rest r (Err (moved f (length r))) h.split e (h.stays r e) ∙ same (length r);
+  more = h.more;
+  made = h.made;
+  completes = h.completes;
+}
+
+told_reads : {X : Type 0} (F : List Symbol → X → List Symbol → Type 0) (p other : List Symbol → Reply X) (ts : List Symbol) (at : ℕ) → Tells p other ts at → (reply : Reply X) → ReadsAt F p ts reply → ReadsAt F other ts (told_at at reply)
+told_reads F p other ts at tells (Ok z) h = record { front = h.front; split = h.split; stands = h.stands; stays = λ r e. tells h.front z.1 r (Ok (z.0, r)) h.split e (h.stays r e) }
+told_reads F p other ts at tells (Err (Unexpected k)) h = told_not F p other ts at tells (Unexpected k) (Unexpected k) h h.place (λ n. refl)
+told_reads F p other ts at tells (Err (Deep k began)) h =
+    let place : Deep k began ≡ Deep (length h.rest) began = h.place in
+    let e : k ≡ length h.rest = cc in
+    told_not F p other ts at tells (Deep k began) (Deep k at) h (ap (λ (n : ℕ). Deep n at) e) (λ n. refl)
+told_reads F p other ts at tells (Err (DotImport k)) h = told_not F p other ts at tells (DotImport k) (DotImport k) h h.place (λ n. refl)
+told_reads F p other ts at tells (Err (Call k c)) h = told_not F p other ts at tells (Call k c) (Call k c) h h.place (λ n. refl)
+
+abbrev pub told_by : {X : Type 0} → ℕ → (List Symbol → Reply X) → List Symbol → Reply X
+told_by at p us = told_at at (p us)
+
+pub told_by_reads : {X : Type 0} (F : List Symbol → X → List Symbol → Type 0) (p : List Symbol → Reply X) (ts : List Symbol) (at : ℕ) (reply : Reply X) → ReadsAt F p ts reply → ReadsAt F (told_by at p) ts (told_at at reply)
+told_by_reads F p ts at reply h = told_reads F p (told_by at p) ts at (λ front rest r reply' split e same. ap (told_at at) same) reply h
+
+pub from_start_reads : {X : Type 0} (F : List Symbol → X → List Symbol → Type 0) (p : List Symbol → Reply X) (ts : List Symbol) (reply : Reply X) → ReadsAt F p ts reply → ReadsAt F (from_start p) ts (told_at (start_of ts) reply)
+from_start_reads F p ts reply h =
+    told_reads F p (from_start p) ts (start_of ts)
+    (λ front rest r reply' split e same. ap (told_at (start_of (front ++ r))) same ∙ ap (λ (at : ℕ). told_at at reply') (sym (start_same ts (front ++ r) (ap ahead split ∙ ahead_along front rest r e))))
+    reply h
+
+pub starts_same : (is : Symbol → Bool) (ts r : List Symbol) → ahead ts ≡ ahead r → starts is ts ≡ starts is r
+starts_same is [] [] e = refl
+starts_same is [] (k ∷ r) e = absurd cc
+starts_same is (k ∷ ts) [] e = absurd cc
+starts_same is (k ∷ ts) (j ∷ r) e = let same : k ≡ j = cc in ap is same
+
+abbrev pub peek_then : {X : Type 0} → (Symbol → Bool) → (List Symbol → Reply X) → (List Symbol → Reply X) → List Symbol → Reply X
+peek_then is q other ts = peek is ts (q ts) (other ts)
+
+peek_so : {X : Type 0} (F : List Symbol → X → List Symbol → Type 0) (is : Symbol → Bool) (q other : List Symbol → Reply X) (ts : List Symbol) (b : Bool) → starts is ts ≡ b
+    → (b ≡ true → ReadsAt F q ts (q ts)) → (b ≡ false → ReadsAt F other ts (other ts)) → ReadsAt F (peek_then is q other) ts (if b then q ts else other ts)
+peek_so F is q other ts true e found otherwise = like_reads F (peek_then is q other) q ts (q ts) (λ r h. let here : starts is r ≡ true = sym (starts_same is ts r h) ∙ e in rw here refl) (found refl)
+peek_so F is q other ts false e found otherwise = like_reads F (peek_then is q other) other ts (other ts) (λ r h. let here : starts is r ≡ false = sym (starts_same is ts r h) ∙ e in rw here refl) (otherwise refl)
+
+pub peek_reads : {X : Type 0} (F : List Symbol → X → List Symbol → Type 0) (is : Symbol → Bool) (q other : List Symbol → Reply X) (ts : List Symbol)
+    → (starts is ts ≡ true → ReadsAt F q ts (q ts)) → (starts is ts ≡ false → ReadsAt F other ts (other ts)) → ReadsAt F (peek_then is q other) ts (peek_then is q other ts)
+peek_reads F is q other ts found otherwise = peek_so F is q other ts (starts is ts) refl found otherwise
+
+abbrev pub choose_then : {X : Type 0} → (Symbol → Bool) → (List Symbol → Reply X) → (List Symbol → Reply X) → List Symbol → Reply X
+choose_then is q other ts = choose (past is ts) q (other ts)
+
+-- the token comes next, or it doesn't
+choose_next : {X : Type 0} (is : Symbol → Bool) (H : List Symbol → X → List Symbol → Type 0) (K : Kind is) (q other : List Symbol → Reply X) (k : Symbol) (ts : List Symbol) (b : Bool) → is k ≡ b
+    → ReadsAt (Past K H) q ts (q ts) → (b ≡ false → ReadsAt H other (k ∷ ts) (other (k ∷ ts)))
+    → ReadsAt H (choose_then is q other) (k ∷ ts) (choose (if b then Ok ts else unexpected (k ∷ ts)) q (other (k ∷ ts)))
+choose_next is H K q other k ts true e found otherwise =
+    let o = K.only k e in
+    cons_reads H (choose_then is q other) q k ts (q ts) (λ r. rw e refl)
+    (as_reads (Past K H) (Behind k H) q ts (q ts) (λ us x rest w. subst (λ j. H (j ∷ us) x rest) (sym o.1) (w o.0)) found)
+choose_next is H K q other k ts false e found otherwise =
+    like_reads H (choose_then is q other) other (k ∷ ts) (other (k ∷ ts)) (next_is (λ r. choose_then is q other r ≡ other r) k (λ r. rw e refl)) (otherwise refl)
+
+pub choose_reads_on : {X : Type 0} (is : Symbol → Bool) (H : List Symbol → X → List Symbol → Type 0) (K : Kind is) (q other : List Symbol → Reply X) (ts : List Symbol)
+    → ((us : List Symbol) → length us < length ts → ReadsAt (Past K H) q us (q us)) → (starts is ts ≡ false → ReadsAt H other ts (other ts))
+    → ReadsAt H (choose_then is q other) ts (choose_then is q other ts)
+choose_reads_on is H K q other [] found otherwise = like_reads H (choose_then is q other) other [] (other []) (ends_so (λ r. choose_then is q other r ≡ other r) refl) (otherwise refl)
+choose_reads_on is H K q other (k ∷ ts) found otherwise = choose_next is H K q other k ts (is k) refl (found ts (omega arith)) otherwise
+
+pub choose_reads : {X : Type 0} (is : Symbol → Bool) (H : List Symbol → X → List Symbol → Type 0) (K : Kind is) (q other : List Symbol → Reply X) (ts : List Symbol)
+    → ((us : List Symbol) → ReadsAt (Past K H) q us (q us)) → (starts is ts ≡ false → ReadsAt H other ts (other ts))
+    → ReadsAt H (choose_then is q other) ts (choose_then is q other ts)
+choose_reads is H K q other ts found otherwise = choose_reads_on is H K q other ts (λ us less. found us) otherwise
+
+-- ---- a reader whose relation doesn't hold of no tokens takes one
+
+eats_front : {X : Type 0} (F : List Symbol → X → List Symbol → Type 0) (x : X) (ts front rest : List Symbol) → ((us : List Symbol) → F [] x us → ⊥) → ts ≡ front ++ rest → ((tail : List Symbol) → F (front ++ tail) x tail) → length rest < length ts
+eats_front F x ts [] rest never e h = absurd (never [] (h []))
+eats_front F x ts (k ∷ front) rest never e h = rw (e, length-append {A = Symbol}) (omega arith)
+
+pub eats : {X : Type 0} (F : List Symbol → X → List Symbol → Type 0) (p : List Symbol → Reply X) (ts : List Symbol) (x : X) (rest : List Symbol) → ((us : List Symbol) → F [] x us → ⊥) → ReadOk F p ts x rest → length rest < length ts
+eats F p ts x rest never h = eats_front F x ts h.front rest never h.split h.stands
+
+-- ---- a relation that holds of fewer trees, where the next token shows it
+
+abbrev only_front : {X : Type 0} → (List Symbol → X → List Symbol → Type 0) → List Symbol → Type 0
+only_front {X} G front = (more : List Symbol) × (made : X) × ((tail : List Symbol) → G (front ++ (more ++ tail)) made tail)
+
+only_done : {X : Type 0} (F G : List Symbol → X → List Symbol → Type 0) (ts front rest : List Symbol) (x : X) → ((k : Symbol) (us : List Symbol) (z : X) (vs : List Symbol) → ahead ts ≡ Some k → F (k ∷ us) z vs → G (k ∷ us) z vs)
+    → ((z : X) (us : List Symbol) → F [] z us → ⊥) → ts ≡ front ++ rest → ((tail : List Symbol) → F (front ++ tail) x tail) → (tail : List Symbol) → G (front ++ tail) x tail
+only_done F G ts [] rest x join never e h tail = absurd (never x [] (h []))
+only_done F G ts (k ∷ front) rest x join never e h tail = join k (front ++ tail) x tail (ap ahead e) (h tail)
+
+only_not : {X : Type 0} (F G : List Symbol → X → List Symbol → Type 0) (ts front rest more : List Symbol) (x : X) → ((k : Symbol) (us : List Symbol) (z : X) (vs : List Symbol) → ahead ts ≡ Some k → F (k ∷ us) z vs → G (k ∷ us) z vs)
+    → Sample G → ts ≡ front ++ rest → ((tail : List Symbol) → F (front ++ (more ++ tail)) x tail) → only_front G front
+only_not F G ts [] rest more x join s e h = (s.tokens, s.made, s.stands)
+only_not F G ts (k ∷ front) rest more x join s e h = (more, x, λ tail. join k (front ++ (more ++ tail)) x tail (ap ahead e) (h tail))
+
+pub only_reads : {X : Type 0} (F G : List Symbol → X → List Symbol → Type 0) (p : List Symbol → Reply X) (ts : List Symbol) → ((k : Symbol) (us : List Symbol) (z : X) (vs : List Symbol) → ahead ts ≡ Some k → F (k ∷ us) z vs → G (k ∷ us) z vs)
+    → ((z : X) (us : List Symbol) → F [] z us → ⊥) → Sample G → (reply : Reply X) → ReadsAt F p ts reply → ReadsAt G p ts reply
+only_reads F G p ts join never s (Ok y) h = record { front = h.front; split = h.split; stands = only_done F G ts h.front y.1 y.0 join never h.split h.stands; stays = h.stays }
+only_reads F G p ts join never s (Err f) h =
+    let o = only_not F G ts h.front h.rest h.more h.made join s h.split h.completes in
+    record { front = h.front; rest = h.rest; split = h.split; place = h.place; stays = h.stays; more = o.0; made = o.1; completes = o.2 }

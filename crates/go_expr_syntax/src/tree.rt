@@ -1,0 +1,44 @@
+use crate::symbols::{Ident, Operator};
+use go_lexer::Token;
+use sqlite_items::Boxed;
+
+/// The name of a type, of this package or of another. It begins at `at`.
+#[derive(Clone, Copy, Debug, PartialEq, Eq)]
+pub struct NameExpr {
+    pub package: Option<Ident>,
+    pub name: Ident,
+    pub at: u32,
+}
+
+/// A constant expression as it is written. It begins at `at`.
+#[derive(Debug, Drop)]
+pub enum Expr {
+    Literal {
+        token: Token,
+        at: u32,
+    },
+    Name {
+        name: NameExpr,
+        at: u32,
+    },
+    Convert {
+        to: NameExpr,
+        arg: Boxed<Expr>,
+        at: u32,
+    },
+    Paren {
+        arg: Boxed<Expr>,
+        at: u32,
+    },
+    Unary {
+        op: Operator,
+        arg: Boxed<Expr>,
+        at: u32,
+    },
+    Binary {
+        op: Operator,
+        left: Boxed<Expr>,
+        right: Boxed<Expr>,
+        at: u32,
+    },
+}

@@ -1,6 +1,0 @@
-use Rattle.std.proofs.Common.{◌≡◌, take}
-use Rattle.go_syntax.specs.Source.{symbols_of}
-use Rattle.go_syntax.proofs.source.symbols.Given as goal
-
-abbrev pub invariant-loop-token : goal.invariant-loop-token
-invariant-loop-token l = l.symbols.items ≡ symbols_of l.src (take l.token-index l.tokens)

@@ -1,0 +1,158 @@
+-- What the readers of fields do.
+use Rattle.std.proofs.Common.{◌≡◌, ℕ, zero, suc, max, true, List, [], ◌∷◌, refl, sym, subst, ◌∙◌}
+use Rattle.go_expr_syntax.specs.declared.symbols.Symbol.{Symbol}
+use Rattle.go_expr_syntax.specs.declared.symbols.Symbol.TheVariants as t
+use Rattle.go_expr_syntax.specs.declared.symbols.Ident.{Ident}
+use Rattle.go_type_syntax.specs.declared.tree.FieldExpr.{FieldExpr}
+use Rattle.go_type_syntax.specs.declared.tree.TypeExpr.{TypeExpr}
+use Rattle.go_type_syntax.specs.declared.tree.TypeExpr.TheVariants as y
+use Rattle.go_expr_syntax.specs.Reading.{Reply, ◌>>=◌, unexpected, peek, starts, is_comma, is_ident, is_open_bracket, is_semicolon, is_close_brace, Fit, fits}
+use Rattle.go_expr_syntax.specs.Names.{plain, IsNames, one, more, IsTag, none, tag_at, names_at}
+use Rattle.go_type_syntax.specs.Grammar as g
+use Rattle.go_type_syntax.specs.Grammar.{named, field, IsType, IsNamed}
+use Rattle.go_type_syntax.specs.Types.{tagged, shared_by, embedded_by, star_by, star_at, lone_by, only_by, array_or_instance, sole_by, more_names, first_by, field_by, fields_at}
+use Rattle.go_expr_syntax.specs.Reading.{shows_embedded}
+use Rattle.go_expr_syntax.proofs.Viable.{ReadsAt, Behind, Past, After, refuse_next, refuse_end, deep_next, as_reads, like_reads, cons_reads, choose_reads, peek_reads, stuck_reads, deep_reads, bind_reads, value_reads, only_reads, starts_same}
+use Rattle.go_expr_syntax.proofs.EitherReads.{either_reads}
+use Rattle.go_expr_syntax.proofs.Marks.{comma, semicolon, close_brace}
+use Rattle.go_expr_syntax.proofs.NameReads.{any_ident, tag_reads, names_reads, through_value}
+use Rattle.go_expr_syntax.proofs.Rows.{IsSeries, series_reads}
+use Rattle.go_type_syntax.proofs.Standing.{Begun, plain_stands, name_stands, no_type_of, TypeAt, NamedAt, FieldAt, FieldsAt, some_field, no_field}
+
+-- after the names
+shared_reads : (inner : List Symbol → Reply (Fit TypeExpr)) → ((us : List Symbol) → ReadsAt TypeAt inner us (inner us)) → (i : Ident) (names : List Ident) (ts : List Symbol)
+    → ReadsAt (After IsNames FieldAt (i ∷ names)) (shared_by inner (i ∷ names) i.start) ts (shared_by inner (i ∷ names) i.start ts)
+shared_reads inner h i names ts =
+    bind_reads TypeAt (After IsNames FieldAt (i ∷ names)) inner (λ ty vs. tagged (i ∷ names) ty i.start vs) ts
+    (λ ty. record { tokens = []; made = (field (i ∷ names) ty.0 [] i.start, ty.1); stands = λ tail us w vs v. (w.0, g.shared w.0 i names vs us ty.0 tail [] tail v w.1 (none tail)) })
+    (λ ty vs o. value_reads IsTag (After TypeAt (After IsNames FieldAt (i ∷ names)) ty) tag_at (λ tag. (field (i ∷ names) ty.0 tag i.start, ty.1)) vs
+    (λ ws tag rest q us w us' v. (w.0, g.shared w.0 i names us' us ty.0 ws tag rest v w.1 q)) (tag_at vs) (tag_reads vs))
+    (inner ts) (h ts)
+
+-- with the names read apart
+abbrev flat_names : (List Symbol → Reply (Fit TypeExpr)) → Ident → List Symbol → Reply (Fit FieldExpr)
+flat_names inner i ts = names_at ts >>= λ names. shared_by inner (i ∷ names.0) i.start names.1
+
+more_is : (inner : List Symbol → Reply (Fit TypeExpr)) (i : Ident) (ts : List Symbol) → more_names inner i ts ≡ flat_names inner i ts
+more_is inner i ts = through_value (names_at ts) (λ (names : List Ident). i ∷ names) (λ names us. shared_by inner names i.start us)
+
+flat_reads : (inner : List Symbol → Reply (Fit TypeExpr)) → ((us : List Symbol) → ReadsAt TypeAt inner us (inner us)) → (i : Ident) (ts : List Symbol)
+    → ReadsAt (Past comma (Behind (t.Ident i) FieldAt)) (flat_names inner i) ts (flat_names inner i ts)
+flat_reads inner h i ts =
+    bind_reads IsNames (Past comma (Behind (t.Ident i) FieldAt)) names_at (λ names us. shared_by inner (i ∷ names) i.start us) ts
+    (λ names. record {
+      tokens = t.Ident any_ident ∷ [];
+      made = (field (i ∷ names) (named (plain any_ident)) [] i.start, 0);
+      stands = λ tail us w c. (
+        1,
+        g.shared 1 i names (t.Ident i ∷ t.Comma c ∷ us) (t.Ident any_ident ∷ tail) (named (plain any_ident)) tail [] tail
+            (more i c us names (t.Ident any_ident ∷ tail) w) (name_stands any_ident tail) (none tail),
+      );
+    })
+    (λ names us o. as_reads (After IsNames FieldAt (i ∷ names)) (After IsNames (Past comma (Behind (t.Ident i) FieldAt)) names) (shared_by inner (i ∷ names) i.start) us (shared_by inner (i ∷ names) i.start us)
+    (λ vs f rest q vs' w c. q (t.Ident i ∷ t.Comma c ∷ vs') (more i c vs' names vs w)) (shared_reads inner h i names us))
+    (names_at ts) (names_reads ts)
+
+more_reads : (inner : List Symbol → Reply (Fit TypeExpr)) → ((us : List Symbol) → ReadsAt TypeAt inner us (inner us)) → (i : Ident) (ts : List Symbol)
+    → ReadsAt (Past comma (Behind (t.Ident i) FieldAt)) (more_names inner i) ts (more_names inner i ts)
+more_reads inner h i ts =
+    like_reads (Past comma (Behind (t.Ident i) FieldAt)) (more_names inner i) (flat_names inner i) ts (more_names inner i ts) (λ r e. more_is inner i r)
+    (subst (ReadsAt (Past comma (Behind (t.Ident i) FieldAt)) (flat_names inner i) ts) (sym (more_is inner i ts)) (flat_reads inner h i ts))
+
+lone_reads : (n : ℕ) (inner : List Symbol → Reply (Fit TypeExpr)) → Begun n inner → (i : Ident) (ts : List Symbol) → ReadsAt (Behind (t.Ident i) FieldAt) (lone_by n inner i) ts (lone_by n inner i ts)
+lone_reads zero inner b i ts =
+    deep_reads (Behind (t.Ident i) FieldAt) ts
+    (record { tokens = []; made = (field [] (named (plain i)) [] i.start, 0); stands = λ tail. (1, g.embedded 1 (t.Ident i ∷ tail) (named (plain i)) tail [] tail (plain_stands i tail) (none tail)) })
+lone_reads (suc n) inner b i ts =
+    bind_reads (Behind (t.Ident i) NamedAt) (Behind (t.Ident i) FieldAt) (λ r. inner (t.Ident i ∷ r)) (λ ty us. tagged [] ty i.start us) ts
+    (λ ty. record { tokens = []; made = (field [] ty.0 [] i.start, ty.1); stands = λ tail us w. (w.0, g.embedded w.0 (t.Ident i ∷ us) ty.0 tail [] tail w.1 (none tail)) })
+    (λ ty us o. value_reads IsTag (After (Behind (t.Ident i) NamedAt) (Behind (t.Ident i) FieldAt) ty) tag_at (λ tag. (field [] ty.0 tag i.start, ty.1)) us
+    (λ vs tag rest q us' w. (w.0, g.embedded w.0 (t.Ident i ∷ us') ty.0 vs tag rest w.1 q)) (tag_at us) (tag_reads us))
+    (inner (t.Ident i ∷ ts)) (b.ident i ts (λ (e : suc n ≡ 0). absurd cc))
+
+only_field : (inner : List Symbol → Reply (Fit TypeExpr)) → ((us : List Symbol) → ReadsAt TypeAt inner us (inner us)) → (i : Ident) (ts : List Symbol) → ReadsAt (Behind (t.Ident i) FieldAt) (only_by inner i) ts (only_by inner i ts)
+only_field inner h i ts =
+    as_reads (After IsNames FieldAt (i ∷ [])) (Behind (t.Ident i) FieldAt) (shared_by inner (i ∷ []) i.start) ts (shared_by inner (i ∷ []) i.start ts) (λ us f rest q. q (t.Ident i ∷ us) (one i us)) (shared_reads inner h i [] ts)
+
+sole_reads : (n : ℕ) (inner : List Symbol → Reply (Fit TypeExpr)) → ((us : List Symbol) → ReadsAt TypeAt inner us (inner us)) → Begun n inner → (i : Ident) (ts : List Symbol) → ReadsAt (Behind (t.Ident i) FieldAt) (sole_by n inner i) ts (sole_by n inner i ts)
+sole_reads n inner h b i ts =
+    peek_reads (Behind (t.Ident i) FieldAt) is_open_bracket (array_or_instance n inner i) (only_by inner i) ts
+    (λ s. either_reads (Behind (t.Ident i) FieldAt) (only_by inner i) (lone_by n inner i) ts (only_field inner h i ts) (λ us. lone_reads n inner b i us))
+    (λ s. only_field inner h i ts)
+
+first_reads : (n : ℕ) (inner : List Symbol → Reply (Fit TypeExpr)) → ((us : List Symbol) → ReadsAt TypeAt inner us (inner us)) → Begun n inner → (i : Ident) (ts : List Symbol)
+    → ReadsAt (Behind (t.Ident i) FieldAt) (first_by n inner i) ts (first_by n inner i ts)
+first_reads n inner h b i ts =
+    choose_reads is_comma (Behind (t.Ident i) FieldAt) comma (more_names inner i) (λ us. peek shows_embedded us (lone_by n inner i us) (sole_by n inner i us)) ts
+    (λ us. more_reads inner h i us)
+    (λ e. peek_reads (Behind (t.Ident i) FieldAt) shows_embedded (lone_by n inner i) (sole_by n inner i) ts (λ s. lone_reads n inner b i ts) (λ s. sole_reads n inner h b i ts))
+
+-- ---- embedded pointers
+
+-- a pointer to a type that begins with an identifier, after its star
+abbrev StarAt : ℕ → List Symbol → Fit TypeExpr → List Symbol → Type 0
+StarAt at ts x rest = (m : ℕ) × (ty : TypeExpr) × (x.0 ≡ y.Pointer ty at) × IsNamed m ts ty rest
+
+named_of : (m : ℕ) (i : Ident) (ts : List Symbol) (ty : TypeExpr) (rest : List Symbol) → IsType m (t.Ident i ∷ ts) ty rest → IsNamed m (t.Ident i ∷ ts) ty rest
+named_of m i ts ty rest (g.name n us z r w) = w
+
+ident_first : (k : Symbol) (m : ℕ) (ts : List Symbol) (ty : TypeExpr) (rest : List Symbol) → is_ident k ≡ true → IsType m (k ∷ ts) ty rest → IsNamed m (k ∷ ts) ty rest
+ident_first (t.Ident i) m ts ty rest e w = named_of m i ts ty rest w
+ident_first _ m ts ty rest e w = absurd cc
+
+pointer_of : (m at : ℕ) (k : Symbol) (ts : List Symbol) (x : TypeExpr) (rest : List Symbol) → is_ident k ≡ true → IsType m (t.Star at ∷ k ∷ ts) x rest → (n : ℕ) × (ty : TypeExpr) × (x ≡ y.Pointer ty at) × IsNamed n (k ∷ ts) ty rest
+pointer_of m at k ts x rest e (g.name n us z r (g.by_name j vs a ws args r' b c)) = elim b [ ]
+pointer_of m at k ts x rest e (g.pointer n at' us ty r w) = (n, ty, refl, ident_first k n ts ty rest e w)
+
+no_pointer : (m at : ℕ) (x : TypeExpr) (rest : List Symbol) → IsType m (t.Star at ∷ []) x rest → ⊥
+no_pointer m at x rest (g.name n us z r (g.by_name j vs a ws args r' b c)) = elim b [ ]
+no_pointer m at x rest (g.pointer n at' us ty r w) = no_type_of n ty rest w
+
+pointed_reads : (n : ℕ) (inner : List Symbol → Reply (Fit TypeExpr)) → Begun n inner → (n ≡ 0 → ⊥) → (at : ℕ) (ts : List Symbol) → starts is_ident ts ≡ true → ReadsAt (StarAt at) (λ r. inner (t.Star at ∷ r)) ts (inner (t.Star at ∷ ts))
+pointed_reads n inner b z at ts e =
+    only_reads (Behind (t.Star at) TypeAt) (StarAt at) (λ r. inner (t.Star at ∷ r)) ts
+    (λ k us x rest a w. pointer_of w.0 at k us x.0 rest (sym (starts_same is_ident ts (k ∷ []) a) ∙ e) w.1)
+    (λ x us w. no_pointer w.0 at x.0 us w.1)
+    (record { tokens = t.Ident any_ident ∷ []; made = (y.Pointer (named (plain any_ident)) at, 0); stands = λ tail. (1, named (plain any_ident), refl, plain_stands any_ident tail) })
+    (inner (t.Star at ∷ ts)) (b.star at ts z)
+
+tagged_star : (n : ℕ) (inner : List Symbol → Reply (Fit TypeExpr)) → Begun n inner → (n ≡ 0 → ⊥) → (at : ℕ) (ts : List Symbol) → starts is_ident ts ≡ true → ReadsAt (Behind (t.Star at) FieldAt) (embedded_by inner (t.Star at)) ts (embedded_by inner (t.Star at) ts)
+tagged_star n inner b z at ts e =
+    bind_reads (StarAt at) (Behind (t.Star at) FieldAt) (λ r. inner (t.Star at ∷ r)) (λ ty us. tagged [] ty at us) ts
+    (λ ty. record { tokens = []; made = (field [] ty.0 [] at, ty.1); stands = λ tail us w. rw w.2 (suc w.0, g.embedded_pointer w.0 at us w.1 tail [] tail w.3 (none tail)) })
+    (λ ty us o. value_reads IsTag (After (StarAt at) (Behind (t.Star at) FieldAt) ty) tag_at (λ tag. (field [] ty.0 tag at, ty.1)) us
+    (λ vs tag rest q us' w. rw w.2 (suc w.0, g.embedded_pointer w.0 at us' w.1 vs tag rest w.3 q)) (tag_at us) (tag_reads us))
+    (inner (t.Star at ∷ ts)) (pointed_reads n inner b z at ts e)
+
+star_reads : (n : ℕ) (inner : List Symbol → Reply (Fit TypeExpr)) → Begun n inner → (n ≡ 0 → ⊥) → (at : ℕ) (ts : List Symbol) → ReadsAt (Behind (t.Star at) FieldAt) (star_by inner at) ts (star_by inner at ts)
+star_reads n inner b z at ts =
+    peek_reads (Behind (t.Star at) FieldAt) is_ident (embedded_by inner (t.Star at)) unexpected ts
+    (λ s. tagged_star n inner b z at ts s)
+    (λ s. stuck_reads (Behind (t.Star at) FieldAt) ts (record {
+      tokens = t.Ident any_ident ∷ [];
+      made = (field [] (y.Pointer (named (plain any_ident)) at) [] at, 0);
+      stands = λ tail. (2, g.embedded_pointer 1 at (t.Ident any_ident ∷ tail) (named (plain any_ident)) tail [] tail (plain_stands any_ident tail) (none tail));
+    }))
+
+star_field_reads : (n : ℕ) (inner : List Symbol → Reply (Fit TypeExpr)) → Begun n inner → (at : ℕ) (ts : List Symbol) → ReadsAt FieldAt (field_by n inner) (t.Star at ∷ ts) (star_at n inner at ts)
+star_field_reads zero inner b at ts = deep_next FieldAt (field_by zero inner) (t.Star at) ts some_field (λ r. refl)
+star_field_reads (suc n) inner b at ts = cons_reads FieldAt (field_by (suc n) inner) (star_by inner at) (t.Star at) ts (star_by inner at ts) (λ r. refl) (star_reads (suc n) inner b (λ (e : suc n ≡ 0). absurd cc) at ts)
+
+pub field_reads : (n : ℕ) (inner : List Symbol → Reply (Fit TypeExpr)) → ((us : List Symbol) → ReadsAt TypeAt inner us (inner us)) → Begun n inner → (ts : List Symbol) → ReadsAt FieldAt (field_by n inner) ts (field_by n inner ts)
+field_reads n inner h b [] = refuse_end FieldAt (field_by n inner) some_field refl
+field_reads n inner h b (t.Star at ∷ ts) = star_field_reads n inner b at ts
+field_reads n inner h b (t.Ident i ∷ ts) = cons_reads FieldAt (field_by n inner) (first_by n inner i) (t.Ident i) ts (first_by n inner i ts) (λ r. refl) (first_reads n inner h b i ts)
+field_reads n inner h b (k ∷ ts) = refuse_next FieldAt (field_by n inner) k ts some_field (λ r. refl)
+
+field_row : (n : ℕ) → IsSeries (fits n is_semicolon is_close_brace) FieldAt FieldsAt
+field_row n = record {
+  between = semicolon;
+  ending = close_brace;
+  none = λ c rest. (0, g.none c rest);
+  last = λ c ts x rest w. (w.0, g.last w.0 c ts x.0 rest w.1);
+  more = λ s ts us x xs rest e w v. (max w.0 v.0, g.more w.0 v.0 s ts us x.0 xs.0 rest w.1 v.1);
+  final = λ s c ts x rest e w. absurd cc;
+}
+
+pub fields_read : (n : ℕ) (inner : List Symbol → Reply (Fit TypeExpr)) → ((us : List Symbol) → ReadsAt TypeAt inner us (inner us)) → Begun n inner → (ts : List Symbol) → ReadsAt FieldsAt (fields_at n inner) ts (fields_at n inner ts)
+fields_read n inner h b ts = series_reads (fits n is_semicolon is_close_brace) FieldAt FieldsAt (field_row n) (field_by n inner) (λ x us w. no_field w.0 x.0 us w.1) (field_reads n inner h b) ts

@@ -1,0 +1,15 @@
+pub mod Standing
+pub mod ParamReads
+pub mod ElemReads
+pub mod FieldReads
+pub mod TypeReads
+pub mod Follows
+pub mod Misreading
+pub mod InstanceAgain
+pub mod FieldAgain
+pub mod ParamAgain
+pub mod ElemAgain
+pub mod TypeAgain
+pub mod ParamTurns
+pub mod SmallFits
+pub mod InstanceTurns

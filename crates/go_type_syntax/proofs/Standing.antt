@@ -1,0 +1,159 @@
+-- What stands somewhere, of any number of nodes, and the least that does.
+use Rattle.std.proofs.Common.{◌≡◌, ℕ, Bool, List, [], ◌∷◌, ◌++◌, Ok, Err, refl, sym, ap, ◌∙◌, append_assoc}
+use Rattle.go_expr_syntax.specs.declared.symbols.Symbol.{Symbol}
+use Rattle.go_expr_syntax.specs.declared.symbols.Symbol.TheVariants as t
+use Rattle.go_expr_syntax.specs.declared.symbols.Ident.{Ident}
+use Rattle.go_type_syntax.specs.declared.params.Param.{Param}
+use Rattle.go_type_syntax.specs.declared.tree.FieldExpr.{FieldExpr}
+use Rattle.go_type_syntax.specs.declared.tree.ParamExpr.{ParamExpr}
+use Rattle.go_type_syntax.specs.declared.tree.SigExpr.{SigExpr}
+use Rattle.go_type_syntax.specs.declared.tree.TermExpr.{TermExpr}
+use Rattle.go_type_syntax.specs.declared.tree.ElemExpr.{ElemExpr}
+use Rattle.go_type_syntax.specs.declared.tree.TypeExpr.{TypeExpr}
+use Rattle.go_expr_syntax.specs.Reading.{Reply, ◌>>=◌, start_of, placed, Fit}
+use Rattle.go_expr_syntax.specs.Names.{plain, own, none}
+use Rattle.go_type_syntax.specs.Grammar as g
+use Rattle.go_type_syntax.specs.Grammar.{instance, named, field, param, signature, IsType, IsNamed, IsArgs, IsTypes, IsField, IsFields, IsParam, IsParams, IsSig, IsTerm, IsTerms, IsUnion, IsElem, IsElems}
+use Rattle.go_expr_syntax.proofs.Viable.{ReadsAt, Sample, Behind}
+use Rattle.go_expr_syntax.proofs.NameReads.{any_ident, no_names, no_type_name}
+
+abbrev pub TypeAt : List Symbol → Fit TypeExpr → List Symbol → Type 0
+TypeAt ts x rest = (m : ℕ) × IsType m ts x.0 rest
+
+-- arguments of a type, after the bracket
+abbrev pub TypesAt : List Symbol → Fit (List TypeExpr) → List Symbol → Type 0
+TypesAt ts xs rest = (m : ℕ) × IsTypes m ts xs.0 rest
+
+abbrev pub NamedAt : List Symbol → Fit TypeExpr → List Symbol → Type 0
+NamedAt ts x rest = (m : ℕ) × IsNamed m ts x.0 rest
+
+abbrev pub FieldAt : List Symbol → Fit FieldExpr → List Symbol → Type 0
+FieldAt ts x rest = (m : ℕ) × IsField m ts x.0 rest
+
+abbrev pub FieldsAt : List Symbol → Fit (List FieldExpr) → List Symbol → Type 0
+FieldsAt ts xs rest = (m : ℕ) × IsFields m ts xs.0 rest
+
+abbrev pub ParamAt : Bool → Bool → List Symbol → Param → List Symbol → Type 0
+ParamAt w v ts x rest = (m : ℕ) × IsParam w v x.last m ts x.expr rest
+
+abbrev pub ParamsAt : Bool → Bool → List Symbol → Fit (List ParamExpr) → List Symbol → Type 0
+ParamsAt w v ts xs rest = (m : ℕ) × IsParams w v m ts xs.0 rest
+
+abbrev pub SigAt : List Symbol → Fit SigExpr → List Symbol → Type 0
+SigAt ts x rest = (m : ℕ) × IsSig m ts x.0 rest
+
+abbrev pub TermAt : List Symbol → Fit TermExpr → List Symbol → Type 0
+TermAt ts x rest = (m : ℕ) × IsTerm m ts x.0 rest
+
+abbrev pub TermsAt : List Symbol → Fit (List TermExpr) → List Symbol → Type 0
+TermsAt ts xs rest = (m : ℕ) × IsTerms m ts xs.0 rest
+
+abbrev pub UnionAt : List Symbol → Fit TypeExpr → List Symbol → Type 0
+UnionAt ts x rest = (m : ℕ) × IsUnion m ts x.0 rest
+
+abbrev pub ElemAt : List Symbol → Fit ElemExpr → List Symbol → Type 0
+ElemAt ts x rest = (m : ℕ) × IsElem m ts x.0 rest
+
+abbrev pub ElemsAt : List Symbol → Fit (List ElemExpr) → List Symbol → Type 0
+ElemsAt ts xs rest = (m : ℕ) × IsElems m ts xs.0 rest
+
+-- ---- the least
+
+pub plain_stands : (i : Ident) (tail : List Symbol) → IsNamed 1 (t.Ident i ∷ tail) (named (plain i)) tail
+plain_stands i tail = g.by_name 0 (t.Ident i ∷ tail) (plain i) tail [] tail (own i tail) (g.no_args tail)
+
+pub name_stands : (i : Ident) (tail : List Symbol) → IsType 1 (t.Ident i ∷ tail) (named (plain i)) tail
+name_stands i tail = g.name 1 (t.Ident i ∷ tail) (named (plain i)) tail (plain_stands i tail)
+
+abbrev pub some_type : Sample TypeAt
+some_type = record { tokens = t.Ident any_ident ∷ []; made = (named (plain any_ident), 0); stands = λ tail. (1, name_stands any_ident tail) }
+
+abbrev pub some_field : Sample FieldAt
+some_field = record {
+  tokens = t.Ident any_ident ∷ [];
+  made = (field [] (named (plain any_ident)) [] 0, 0);
+  stands = λ tail. (1, g.embedded 1 (t.Ident any_ident ∷ tail) (named (plain any_ident)) tail [] tail (plain_stands any_ident tail) (none tail));
+}
+
+-- ---- none of them stands of no tokens
+
+pub no_named : (m : ℕ) (ty : TypeExpr) (us : List Symbol) → IsNamed m [] ty us → ⊥
+no_named m ty us (g.by_name n ts x vs args r a b) = no_type_name x vs a
+
+pub no_type_of : (m : ℕ) (ty : TypeExpr) (us : List Symbol) → IsType m [] ty us → ⊥
+no_type_of m ty us (g.name n ts z r a) = no_named n ty us a
+
+pub no_type_here : (x : Fit TypeExpr) (us : List Symbol) → TypeAt [] x us → ⊥
+no_type_here x us w = no_type_of w.0 x.0 us w.1
+
+pub no_field : (m : ℕ) (f : FieldExpr) (us : List Symbol) → IsField m [] f us → ⊥
+no_field m f us (g.shared n i names ts vs ty ws tag rest a b c) = no_names (i ∷ names) vs a
+no_field m f us (g.embedded n ts ty vs tag rest a b) = no_named n ty vs a
+
+no_param_of : (w v f : Bool) (m : ℕ) (x : ParamExpr) (us : List Symbol) → IsParam w v f m [] x us → ⊥
+no_param_of w v f m x us (g.unnamed v' n ts ty rest a) = no_type_of n ty us a
+no_param_of w v f m x us (g.sharing v' n i names ts vs ty rest a b) = no_names (i ∷ names) vs a
+
+pub no_param : (w v : Bool) (x : Param) (us : List Symbol) → ParamAt w v [] x us → ⊥
+no_param w v x us p = no_param_of w v x.last p.0 x.expr us p.1
+
+no_term_of : (m : ℕ) (x : TermExpr) (us : List Symbol) → IsTerm m [] x us → ⊥
+no_term_of m x us (g.exactly n ts ty rest a) = no_type_of n ty us a
+
+pub no_term : (x : Fit TermExpr) (us : List Symbol) → TermAt [] x us → ⊥
+no_term x us w = no_term_of w.0 x.0 us w.1
+
+no_union_of : (m : ℕ) (x : TypeExpr) (us : List Symbol) → IsUnion m [] x us → ⊥
+no_union_of m x us (g.alone n ts ty rest a) = no_type_of n ty us a
+no_union_of m x us (g.several k n b ts vs x' xs rest a c) = no_term_of k x' (t.Bar b ∷ vs) a
+
+pub no_union : (x : Fit TypeExpr) (us : List Symbol) → UnionAt [] x us → ⊥
+no_union x us w = no_union_of w.0 x.0 us w.1
+
+no_elem_of : (m : ℕ) (x : ElemExpr) (us : List Symbol) → IsElem m [] x us → ⊥
+no_elem_of m x us (g.embeds n ts ty rest a) = no_union_of n ty us a
+
+pub no_elem_here : (x : Fit ElemExpr) (us : List Symbol) → ElemAt [] x us → ⊥
+no_elem_here x us w = no_elem_of w.0 x.0 us w.1
+
+-- ---- what is read, with its place
+
+abbrev pub Placed : {X : Type 0} → (List Symbol → X → List Symbol → Type 0) → List Symbol → X × ℕ → List Symbol → Type 0
+Placed F ts x rest = F ts x.0 rest × (x.1 ≡ start_of ts)
+
+start_front : {X : Type 0} (F : List Symbol → X → List Symbol → Type 0) (x : X) (front : List Symbol) → ((z : X) (us : List Symbol) → F [] z us → ⊥) → ((tail : List Symbol) → F (front ++ tail) x tail)
+    → (a b : List Symbol) → start_of (front ++ a) ≡ start_of (front ++ b)
+start_front F x [] never h a b = absurd (never x [] (h []))
+start_front F x (k ∷ front) never h a b = refl
+
+abbrev placed_as : {X : Type 0} → X → List Symbol → ℕ → Reply (X × ℕ)
+placed_as x r at = Ok ((x, at), r)
+
+abbrev place_by : {X : Type 0} → ℕ → Reply X → Reply (X × ℕ)
+place_by at reply = reply >>= λ x. Ok ((x.0, at), x.1)
+
+pub placed_reads : {X : Type 0} (F : List Symbol → X → List Symbol → Type 0) (p : List Symbol → Reply X) (ts : List Symbol) → ((z : X) (us : List Symbol) → F [] z us → ⊥)
+    → (reply : Reply X) → ReadsAt F p ts reply → ReadsAt (Placed F) (placed p) ts (place_by (start_of ts) reply)
+placed_reads F p ts never (Ok z) h = record {
+  front = h.front;
+  split = h.split;
+  stands = λ tail. (h.stands tail, ap start_of h.split ∙ start_front F z.0 h.front never h.stands z.1 tail);
+  stays = λ r e. ap (place_by (start_of (h.front ++ r))) (h.stays r e) ∙ ap (placed_as z.0 r) (start_front F z.0 h.front never h.stands r z.1 ∙ sym (ap start_of h.split));
+}
+placed_reads F p ts never (Err f) h =
+    let whole : (tail : List Symbol) → F ((h.front ++ h.more) ++ tail) h.made tail = λ tail. rw append_assoc (h.completes tail) in
+    record {
+      front = h.front;
+      rest = h.rest;
+      split = h.split;
+      place = h.place;
+      stays = λ r e. ap (place_by (start_of (h.front ++ r))) (h.stays r e);
+      more = h.more;
+      made = (h.made, start_of ((h.front ++ h.more) ++ []));
+      completes = λ tail. (h.completes tail, start_front F h.made (h.front ++ h.more) never whole [] tail ∙ ap start_of (append_assoc h.front h.more tail));
+    }
+
+-- what a reader of types does after a first token, where a node is left for the type
+pub record Begun (n : ℕ) (inner : List Symbol → Reply (Fit TypeExpr)) : Type 0 where
+  pub ident : (i : Ident) (ts : List Symbol) → (n ≡ 0 → ⊥) → ReadsAt (Behind (t.Ident i) NamedAt) (λ us. inner (t.Ident i ∷ us)) ts (inner (t.Ident i ∷ ts))
+  pub star : (at : ℕ) (ts : List Symbol) → (n ≡ 0 → ⊥) → ReadsAt (Behind (t.Star at) TypeAt) (λ us. inner (t.Star at ∷ us)) ts (inner (t.Star at ∷ ts))

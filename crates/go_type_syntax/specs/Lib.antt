@@ -1,0 +1,4 @@
+pub mod Grammar
+pub mod Params
+pub mod Elements
+pub mod Types

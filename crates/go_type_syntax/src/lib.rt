@@ -1,0 +1,13 @@
+//! Go's types as trees, or where reading one stops.
+#![tactic(auto)]
+
+mod elements;
+mod instances;
+mod params;
+mod tree;
+mod types;
+
+pub use elements::union_type;
+pub use params::signature;
+pub use tree::{ElemExpr, FieldExpr, ParamExpr, SigExpr, TermExpr, TypeExpr};
+pub use types::type_expr;
