@@ -29,7 +29,8 @@ fn files_are_stored(rt: HostRuntime) -> Result<(), Fail> {
     Ok(())
 }
 
-// Pieces, and whether they go whole: put 1 is planned to fail after 3 bytes and put 3 after 9, and 16 bytes have room.
+// Pieces, and whether they go whole: put 1 is planned to fail after 3 bytes and put 3 after 9, and 16 bytes have
+// room.
 const PIECES: [(&str, bool); 6] = [
     ("abcd", true),
     ("efgh", false),

@@ -1,4 +1,5 @@
-//! Tests over the public calls of the crates that read and write bytes: what no clause says, and no case of file_cases shows.
+//! Tests over the public calls of the crates that read and write bytes: what no clause says, and no case of
+//! file_cases shows.
 #![tactic(auto)]
 
 #[cfg(test)]

@@ -26,8 +26,8 @@ impl Block {
         }
     }
 
-    /// What is printed of a line: nothing of a comment or a file, else the line and what comes of it. An empty line ends the
-    /// block.
+    /// What is printed of a line: nothing of a comment or a file, else the line and what comes of it. An empty line
+    /// ends the block.
     pub fn answer<R: Threads + Sync>(&mut self, rt: &R, line: &str) -> Result<Report, AllocError> {
         let mut report = Report::new(self.alloc);
         match self.carry_out(rt, line, &mut report) {
@@ -149,7 +149,7 @@ impl Block {
         Ok(outcome.report(self.alloc, report)?)
     }
 
-    /// `COUNT WORDS`
+    /// `COUNT WORDS`, of which no call fails
     fn run_to_end<R: Threads + Sync>(
         &self,
         rt: &R,
@@ -158,11 +158,11 @@ impl Block {
     ) -> Result<(), CaseFault> {
         let (count, words) = parted(rest)?;
         let files = self.files.copy()?;
-        let outcome = outcome_of(rt, self.alloc, words, files, &self.plan)?;
+        let outcome = outcome_of(rt, self.alloc, words, files, &Plan::new(self.alloc))?;
         Ok(outcome.report_end(self.alloc, report, number(count)? as usize)?)
     }
 
-    /// `NAME WORDS`
+    /// `NAME WORDS`, of which no call fails
     fn run_cuts<R: Threads + Sync>(
         &self,
         rt: &R,
@@ -175,7 +175,7 @@ impl Block {
         };
         for len in 0..bytes.len() {
             let files = self.files.copy_cut(name, len)?;
-            let outcome = outcome_of(rt, self.alloc, words, files, &self.plan)?;
+            let outcome = outcome_of(rt, self.alloc, words, files, &Plan::new(self.alloc))?;
             outcome.report(self.alloc, report)?;
         }
         Ok(())

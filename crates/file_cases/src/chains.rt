@@ -15,11 +15,12 @@ const FIRST_DESCRIPTOR: u64 = 32;
 /// The string section: "" at 0, "p" at 1, "A" at 3, "a" at 5 and "b" at 7.
 const STRINGS: &[u8] = b"\x00\x01p\x01A\x01a\x01b";
 
-/// The index but for the offset of A: one package, whose path is empty and whose name is `p`, of height 0, with one name.
+/// The index but for the offset of A: one package, whose path is empty and whose name is `p`, of height 0, with one
+/// name.
 const INDEX: [u8; 6] = [1, 0, 1, 0, 1, 3];
 
-/// A file of `package p` that declares the variable A. Its type is the last of a chain of so many descriptors, of which the
-/// first names int, or is a struct without fields.
+/// A file of `package p` that declares the variable A. Its type is the last of a chain of so many descriptors, of
+/// which the first names int, or is a struct without fields.
 pub fn chain_file(alloc: Global, link: Link, count: u64) -> Result<Vec<u8>, AllocError> {
     let mut data = Writer::new(alloc);
     let last = put_chain(&mut data, link, count)?;

@@ -2,8 +2,8 @@ use crate::faults::CaseFault;
 use crate::shelf::Shelf;
 use std::alloc::Global;
 
-/// The bytes that items spell, one after another: a byte as `0a`, one that is repeated as `00*20`, all bytes of a file as
-/// `p.x`, or those from the fourth to the eleventh as `p.x[3..11]`, where either number may be missing.
+/// The bytes that items spell, one after another: a byte as `0a`, one that is repeated as `00*20`, all bytes of a
+/// file as `p.x`, or those from the fourth to the eleventh as `p.x[3..11]`, where either number may be missing.
 pub fn bytes_of(alloc: Global, items: &str, files: &Shelf) -> Result<Vec<u8>, CaseFault> {
     let mut bytes = Vec::new(alloc);
     for item in items.split_whitespace() {

@@ -25,7 +25,8 @@ impl Report {
         Ok(())
     }
 
-    /// Adds the lines of a text but for so many first ones. A last one without a line feed has a line behind it that says so.
+    /// Adds the lines of a text but for so many first ones. A last one without a line feed has a line behind it that
+    /// says so.
     pub fn lines(&mut self, mark: &str, text: &[u8], skipped: usize) -> Result<(), AllocError> {
         if text.is_empty() {
             return Ok(());
