@@ -4,6 +4,8 @@
 mod arguments;
 mod host_files;
 mod std_sink;
+#[cfg(test)]
+mod tests;
 
 use arguments::{NoWords, read_words};
 use exportdata_cmd::{Status, refuse_words, run};

@@ -1,0 +1,65 @@
+-- A package stands that declares one variable of a predeclared type and has no imports and no files.
+use Rattle.std.proofs.Common.{◌≡◌, ℕ, ◌<◌, Bool, true, false, cond, List, [], ◌∷◌, length, Some, None, sym, subst, arith, suc, zero}
+use Rattle.std.specs.Prelude.{nat_eq}
+use Rattle.std.specs.List.{All, Contains}
+use Rattle.std.specs.Cmp.Lexicographic.{pointwise}
+use Rattle.std.proofs.lemmas.List.Elements.{All-nil, All-cons}
+use Rattle.code_tables.specs.declared.predeclared.Basic.{Basic}
+use Rattle.go_values.specs.declared.positions.Pos.{Pos}
+use Rattle.type_terms.specs.declared.descriptors.Node.{Node}
+use Rattle.type_terms.specs.declared.declarations.DeclNode.{DeclNode}
+use Rattle.type_terms.specs.declared.declarations.DeclNode.TheVariants.{Var}
+use Rattle.type_terms.specs.declared.declarations.Package.{Package}
+use Rattle.type_terms.specs.Trees.{Text, Tree, predeclared, level_of}
+use Rattle.type_terms.specs.Parts.{Within, itself, inside, parts}
+use Rattle.type_terms.specs.Arenas.{AllBelow}
+use Rattle.type_terms.specs.Denotation.{tree}
+use Rattle.type_terms.specs.Declarations.{var_of, decl_nodes}
+use Rattle.type_terms.specs.Environments.{decl_of, IsProper, IsProperLevel, IsProperDecl}
+use Rattle.type_terms.specs.Packages.{IsRising, IsImports, IsSourceFile, Named, name_of, package_decl, HoldsParameters, DeclsStand, PackageStands}
+
+basic_level : (basic : Basic) (type part : Tree) → type ≡ predeclared basic → Within type part → IsProperLevel (level_of part)
+basic_level basic _ _ e (itself type) = subst (λ t. IsProperLevel (level_of t)) (sym e) tt
+basic_level basic _ _ e (inside type part below held rest) =
+    let none : Contains (parts (predeclared basic)) part = subst (λ t. Contains (parts t) part) e held in
+    absurd (omega (arith, none.1))
+
+basic_var : (pos : Pos) (basic : Basic) (type : Tree) → type ≡ predeclared basic → IsProperDecl (var_of pos type)
+basic_var pos basic type e = record {
+  form = tt;
+  types = All-cons IsProper type [] (λ part within. basic_level basic type part e within) (All-nil IsProper);
+}
+
+no_imports : IsImports []
+no_imports = record {
+  rises = λ m n first second below here there. (cc);
+  safe = λ found. absurd (omega (arith, found.1));
+}
+
+rises_alone : (decl : Named) → IsRising name_of (decl ∷ [])
+rises_alone decl m zero first second below here there = absurd (omega arith)
+rises_alone decl m (suc n) first second below here there = (cc)
+
+only : (name : Text) (decl found : DeclNode) (asked : Text) → package_decl ((name, decl) ∷ []) asked ≡ Some found → found ≡ decl
+only name decl found asked = by (pointwise nat_eq asked name)
+  where
+    by : (b : Bool) → cond b (Some decl) None ≡ Some found → found ≡ decl
+    by true e = (cc)
+    by false e = (cc)
+
+one_stands : (nodes : List Node) (path : Text) (name : Text) (decl : DeclNode) → AllBelow (length nodes) (decl_nodes decl) → IsProperDecl (decl_of nodes decl) → ((asked : Text) → HoldsParameters path ((name, decl) ∷ []) asked (decl_of nodes decl))
+    → DeclsStand nodes path ((name, decl) ∷ [])
+one_stands nodes path name decl below proper parameters = record {
+  rises = rises_alone (name, decl);
+  below = λ asked found is. subst (λ d. AllBelow (length nodes) (decl_nodes d)) (sym (only name decl found asked is)) below;
+  proper = λ asked found is. subst (λ d. IsProperDecl (decl_of nodes d)) (sym (only name decl found asked is)) proper;
+  parameters = λ asked found is. subst (λ d. HoldsParameters path ((name, decl) ∷ []) asked (decl_of nodes d)) (sym (only name decl found asked is)) (parameters asked);
+}
+
+pub variable_stands : (nodes : List Node) (whole : Package) (name : Text) (pos : Pos) (type : ℕ) (basic : Basic) → whole.imports.items ≡ [] → whole.files.items ≡ [] → whole.decls.items ≡ (name, Var pos type) ∷ []
+    → type < length nodes → tree nodes type ≡ predeclared basic → PackageStands nodes whole
+variable_stands nodes whole name pos type basic imports files decls below is = record {
+  imports = subst IsImports (sym imports) no_imports;
+  files = subst (All IsSourceFile) (sym files) (All-nil IsSourceFile);
+  decls = subst (DeclsStand nodes whole.path) (sym decls) (one_stands nodes whole.path name (Var pos type) (below, tt) (basic_var pos basic (tree nodes type) is) (λ asked. tt));
+}

@@ -1,0 +1,74 @@
+//! A package over no dependencies, as the environment of names.
+
+ghost use Rattle.std.specs.Prelude.{◌≡◌, ◌<◌, IfOk, length};
+ghost use Rattle.type_terms.specs.Denotation.{tree};
+ghost use Rattle.type_terms.specs.Trees.{predeclared};
+ghost use Rattle.type_terms.specs.Packages.{PackageStands};
+
+use code_tables::Basic;
+use go_values::{Bytes, Pos, QName};
+use std::alloc::{AllocError, Global};
+use std::test::Fail;
+use type_terms::{Arena, DeclNode, Env, EnvError, NoDeps, Node, NodeId, Over, Package};
+
+/// The package `p`, which declares one variable. Its name is empty.
+fn package_of(alloc: Global, basic: Basic, ty: NodeId, arena: &Arena) -> Result<Package, AllocError>
+    requires below { ty < length arena.now.nodes }
+    requires denotes { tree arena.now.nodes ty ≡ predeclared basic }
+    ensures stands { IfOk result (λ whole. PackageStands arena.now.nodes whole) }
+{
+    let decl = DeclNode::Var {
+        pos: Pos::Nowhere,
+        ty,
+    };
+    Ok(Package {
+        path: Bytes::from_slice(alloc, b"p")?,
+        name: Bytes::new(alloc),
+        imports: Vec::new(alloc),
+        decls: vec![in alloc; (Bytes::new(alloc), decl)]?,
+        files: Vec::new(alloc),
+    })
+}
+
+/// The declaration of an environment for a name; none where it has nothing for it.
+fn found_by<E: Env>(env: &mut E, q: &QName, arena: &mut Arena) -> Result<Option<DeclNode>, EnvError>
+    requires { E.stands env.old arena.old.nodes }
+    ensures stands { E.stands env.new arena.new.nodes }
+{
+    match env.declare(q, arena) {
+        Ok(decl) => Ok(Some(decl)),
+        Err(EnvError::Unknown { .. }) => Ok(None),
+        Err(fault) => Err(fault),
+    }
+}
+
+/// The same of a package over no dependencies.
+fn found_over(whole: &Package, q: &QName, arena: &mut Arena) -> Result<Option<DeclNode>, EnvError>
+    requires { PackageStands arena.old.nodes whole.now }
+{
+    let mut nothing = NoDeps;
+    let mut env = Over {
+        package: whole,
+        base: &mut nothing,
+    };
+    found_by(&mut env, q, arena)
+}
+
+/// Whether the variable of `p` is found under this path.
+fn is_found(alloc: Global, path: &str) -> Result<bool, Fail> {
+    let q = QName {
+        path: Bytes::from_slice(alloc, path.as_bytes())?,
+        name: Bytes::new(alloc),
+    };
+    let mut arena = Arena::new(alloc, 10);
+    let ty = arena.add(Node::Predeclared(Basic::Int))?;
+    let whole = package_of(alloc, Basic::Int, ty, &arena)?;
+    Ok(found_over(&whole, &q, &mut arena)?.is_some())
+}
+
+#[test]
+fn names_of_its_path_are_the_packages(rt: HostRuntime) -> Result<(), Fail> {
+    assert!(rt; is_found(rt.alloc(), "p")?);
+    assert!(rt; !is_found(rt.alloc(), "q")?);
+    Ok(())
+}
