@@ -10,7 +10,7 @@ use Rattle.command_words.proofs.OneReading.{one_request, one_wrong_word, apart}
 use Rattle.wire_bytes.specs.declared.fault.ByteFault.{ByteFault}
 use Rattle.name_index.specs.FullFile.{FullFile}
 use Rattle.name_index.specs.FirstBreach.{full_file_of}
-use Rattle.name_index.proofs.Files.{file_again}
+use Rattle.name_index.proofs.FullFileLemmas.{file_again}
 use Rattle.exportdata_cmd.specs.Sources.{SourceFault, missing, too_long, breach, Opens}
 use Rattle.exportdata_cmd.specs.Endings.{Ending}
 use Rattle.exportdata_cmd.specs.Due.{Asks, source_asked, Yields, DueOf, DueFor, Due}

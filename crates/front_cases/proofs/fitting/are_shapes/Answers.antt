@@ -1,7 +1,7 @@
 use Rattle.std.proofs.Common.{◌≡◌, ℕ, List, slice_get, Some, subst, sym, arith}
 use Rattle.std.proofs.lemmas.List.{length-map}
 use Rattle.cycle_rules.specs.Cycles.{targets_of}
-use Rattle.cycle_rules.proofs.Places.{at_within, at-mapped}
+use Rattle.cycle_rules.proofs.PlaceLemmas.{at_within, at-mapped}
 use Rattle.front_cases.proofs.fitting.are_shapes.Goals as goal
 
 pub returns : goal.returns
