@@ -6,7 +6,7 @@ ghost use Rattle.cycle_rules.specs.Cycles.{AreShapes};
 
 use crate::fitting::are_shapes;
 use crate::no_answer::NoAnswer;
-use cycle_rules::{CycleKind, Form, Shape, check_cycles};
+use cycle_rules::{CycleKind, DeclShape, Form, check_cycles};
 use sqlite_items::Items;
 use std::alloc::{AllocError, Global};
 
@@ -21,14 +21,14 @@ struct Open {
 #[derive(Drop)]
 struct Reader {
     alloc: Global,
-    read: Vec<Shape>,
-    shape: Shape,
+    read: Vec<DeclShape>,
+    shape: DeclShape,
     open: Vec<Open>,
     list: CycleKind,
 }
 
-fn new_shape(alloc: Global) -> Shape {
-    Shape {
+fn new_shape(alloc: Global) -> DeclShape {
+    DeclShape {
         params: 0,
         holds: Form::Stop,
         embeds: Vec::new(alloc),
@@ -144,7 +144,7 @@ fn number(word: &str) -> Result<u32, NoAnswer> {
 }
 
 /// The declarations that these words are.
-fn read_shapes(alloc: Global, words: &[&str]) -> Result<Vec<Shape>, NoAnswer> {
+fn read_shapes(alloc: Global, words: &[&str]) -> Result<Vec<DeclShape>, NoAnswer> {
     let mut reader = Reader {
         alloc,
         read: Vec::new(alloc),
@@ -171,7 +171,7 @@ pub fn checked(alloc: Global, words: &[&str]) -> Result<String, NoAnswer> {
 }
 
 /// What the check answers, which has ranks where there is no cycle.
-fn found(alloc: Global, shapes: &[Shape]) -> Result<String, AllocError>
+fn found(alloc: Global, shapes: &[DeclShape]) -> Result<String, AllocError>
     requires size { length shapes.now < 2 ^ 32 }
     requires shapes { AreShapes shapes.now }
 {

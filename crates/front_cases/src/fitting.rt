@@ -5,7 +5,7 @@ ghost use Rattle.cycle_rules.specs.Forms.{Fits};
 ghost use Rattle.cycle_rules.specs.Cycles.{AreShapes, targets_of};
 ghost use Rattle.front_cases.specs.Fitting.{AllBelow, AllFit};
 
-use cycle_rules::{CycleKind, Form, Shape};
+use cycle_rules::{CycleKind, DeclShape, Form};
 
 /// Whether the numbers are below a bound.
 fn all_below(numbers: &[u32], bound: usize) -> bool
@@ -20,7 +20,7 @@ fn all_below(numbers: &[u32], bound: usize) -> bool
 }
 
 #[cycle(fitting)]
-fn form_fits(shapes: &[Shape], params: u32, form: &Form) -> bool
+fn form_fits(shapes: &[DeclShape], params: u32, form: &Form) -> bool
     ensures { IsTrue result → Fits shapes.now params form.now }
 {
     match form {
@@ -42,7 +42,7 @@ fn form_fits(shapes: &[Shape], params: u32, form: &Form) -> bool
 }
 
 #[cycle(fitting)]
-fn all_fit(shapes: &[Shape], params: u32, forms: &[Form]) -> bool
+fn all_fit(shapes: &[DeclShape], params: u32, forms: &[Form]) -> bool
     ensures { IsTrue result → AllFit shapes.now params forms.now }
 {
     for form in forms {
@@ -53,7 +53,7 @@ fn all_fit(shapes: &[Shape], params: u32, forms: &[Form]) -> bool
     true
 }
 
-fn shape_fits(shapes: &[Shape], shape: &Shape) -> bool
+fn shape_fits(shapes: &[DeclShape], shape: &DeclShape) -> bool
     ensures form { IsTrue result → Fits shapes.now shape.now.params shape.now.holds }
     ensures lists { IsTrue result → (kind : CycleKind) → AllBelow (targets_of kind shape.now) (length shapes.now) }
 {
@@ -69,7 +69,7 @@ fn shape_fits(shapes: &[Shape], shape: &Shape) -> bool
 
 /// Whether each number in these declarations names a declaration or a parameter, and each application has as many
 /// arguments as there are parameters.
-pub fn are_shapes(shapes: &[Shape]) -> bool
+pub fn are_shapes(shapes: &[DeclShape]) -> bool
     ensures { IsTrue result → AreShapes shapes.now }
 {
     for shape in shapes {

@@ -1,7 +1,7 @@
 //! Cases of the values that declarations are made of.
 
 use crate::no_answer::NoAnswer;
-use go_values::{Bytes, Const, FileInfo, Lines, Pos, QName};
+use go_values::{Bytes, Const, FileInfo, Pos, QName, Sequence};
 use std::alloc::{AllocError, Global};
 
 /// Copies of values that are made of a text: a name, a position, a constant and a file.
@@ -38,7 +38,7 @@ fn copied_constant(alloc: Global, text: &[u8]) -> Result<String, AllocError> {
 
 fn copied_file(alloc: Global, text: &[u8]) -> Result<String, AllocError> {
     let name = Bytes::from_slice(alloc, text)?;
-    let lines = Lines::from_items(Vec::from_slice(alloc, &[0, 10, 11])?);
+    let lines = Sequence::from_items(Vec::from_slice(alloc, &[0, 10, 11])?);
     let file = FileInfo {
         name,
         size: 12,
