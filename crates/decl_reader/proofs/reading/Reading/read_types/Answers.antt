@@ -1,0 +1,17 @@
+use Rattle.std.proofs.Common.{Ok}
+use Rattle.decl_reader.specs.Calls.{sections_of}
+use Rattle.decl_reader.specs.Progress.{known}
+use Rattle.decl_reader.proofs.ProgressLemmas.{goes_on_twice, goes_on_as}
+use Rattle.decl_reader.proofs.DescentLoop.{reads_on}
+use Rattle.decl_reader.proofs.reading.Reading.read_types.Goals as goal
+
+pub loop-mention-preserved : goal.loop-mention-preserved
+loop-mention-preserved g c =
+    let at = c.loop-mention in
+    let new = c.read_type.new.self in
+    let on = c.read_type.ensures.goes_on in
+    let gone = goes_on_as c.args.parts.now at.self new c.read_type.result (Ok c.in_ok-read_type.field-0) (λ wants. absurd cc) on in (
+      reads_on (sections_of c.args.parts.now) c.args.holder c.args.mentions.now (known c.args.self.now) c.args.self.now.arena.now at.self.arena.now at.self.table.now at.mention-index _ at.invariant.0 c.loop-mention-test.true
+          new.arena.now new.table.now on.adds.extends on.ready c.in_ok-read_type.ensures.exact,
+      goes_on_twice c.args.parts.now c.args.self.now at.self new _ _ at.invariant.1 gone,
+    )
