@@ -1,1 +1,1 @@
-mod Variables
+mod VariableLemmas

@@ -1,4 +1,3 @@
 pub mod NodeEqualityLemmas
 pub mod InsertionLemmas
 pub mod PackageLemmas
-pub mod VariableLemmas

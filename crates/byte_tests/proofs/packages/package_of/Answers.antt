@@ -1,4 +1,4 @@
-use Rattle.byte_tests.proofs.Variables.{variable_stands}
+use Rattle.byte_tests.proofs.VariableLemmas.{variable_stands}
 use Rattle.byte_tests.proofs.packages.package_of.Goals as goal
 
 pub returns : goal.returns
