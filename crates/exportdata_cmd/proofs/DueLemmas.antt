@@ -16,7 +16,7 @@ use Rattle.exportdata_cmd.specs.Endings.{Ending}
 use Rattle.exportdata_cmd.specs.Due.{Asks, source_asked, Yields, DueOf, DueFor, Due}
 use Rattle.exportdata_cmd.specs.Carried.{GivesOne}
 use Rattle.exportdata_cmd.specs.declared.exits.Status.TheVariants.{Done, Refused}
-use Rattle.exportdata_cmd.specs.declared.opening.TheConstants.{FILE_LIMIT}
+use Rattle.name_index.specs.declared.limits.TheConstants.{FILE_LIMIT}
 use Rattle.exportdata_cmd.proofs.ShowingLemmas.{one_shown, shown_either}
 
 -- words ask for one thing, or have one wrong word

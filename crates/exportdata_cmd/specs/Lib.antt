@@ -1,3 +1,4 @@
+pub mod Exits
 pub mod Printed
 pub mod Endings
 pub mod Sources

@@ -9,7 +9,7 @@ use Rattle.name_index.specs.FullFile.{FullFile}
 use Rattle.name_index.specs.Envelope.{Envelope}
 use Rattle.name_index.specs.FirstBreach.{FirstBreach}
 use Rattle.exportdata_cmd.specs.Endings.{Ending, missing_end, damaged_end, limit_bytes_end}
-use Rattle.exportdata_cmd.specs.declared.opening.TheConstants.{FILE_LIMIT}
+use Rattle.name_index.specs.declared.limits.TheConstants.{FILE_LIMIT}
 
 -- the file has this body, or none, where the files are told
 abbrev pub HasBody : Option Held → List ℕ → Option (List ℕ) → Type 0

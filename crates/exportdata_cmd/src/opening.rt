@@ -7,13 +7,10 @@ ghost use Rattle.exportdata_cmd.specs.Carried.{Refuses};
 
 use crate::error_line::ErrorLine;
 use command_words::SourceWord;
-use name_index::{Image, read_full_file};
+use name_index::{FILE_LIMIT, Image, read_full_file};
 use outside::{FetchFault, Files};
 use std::alloc::Global;
 use wire_bytes::ReadFault;
-
-/// The most bytes of a file that are taken in: 16 MiB.
-pub const FILE_LIMIT: usize = 16_777_216;
 
 // Fetches the file of a source.
 fn fetch<'a, F: Files>(

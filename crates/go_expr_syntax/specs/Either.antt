@@ -4,7 +4,8 @@ use Rattle.go_expr_syntax.specs.declared.faults.Fault.{Fault}
 use Rattle.go_expr_syntax.specs.declared.faults.Fault.TheVariants.{Unexpected, Deep, DotImport, Call}
 use Rattle.go_expr_syntax.specs.Reading.{Reply}
 
--- How many tokens have to be left at the fault of the first reading, that the second one counts, which has this fault: it goes as far, and
+-- How many tokens have to be left at the fault of the first reading, that the second one counts, which has this
+-- fault: it goes as far, and
 -- further where it is merely Unexpected there.
 abbrev pub needed_at : Fault → ℕ
 needed_at (Unexpected k) = suc k
@@ -33,7 +34,8 @@ abbrev pub or_at : ℕ → Option ℕ → ℕ
 or_at began (Some at) = at
 or_at began None = began
 
--- The second reading, where the first has this fault. Where a path is too long in both, the outermost type is that of the second: its name stands before the bracket.
+-- The second reading, where the first has this fault. Where a path is too long in both, the outermost type is that
+-- of the second: its name stands before the bracket.
 abbrev pub after_fault : {X : Type 0} → Fault → Reply X → Reply X
 after_fault (Deep k began) second = Err (Deep k (or_at began (began_here k second)))
 after_fault (Unexpected k) second = instead_of (Unexpected k) k second

@@ -1,4 +1,5 @@
--- The grammar of constant expressions, a production a case. The second number is that of the nodes on a longest path of the tree.
+-- The grammar of constant expressions, a production a case. The second number is that of the nodes on a longest
+-- path of the tree.
 use Rattle.std.specs.Prelude.{◌≡◌, ℕ, suc, max, Bool, true, false, List, ◌∷◌, Option, Some, None}
 use Rattle.go_lexer.specs.declared.token_kinds.Token.{Token}
 use Rattle.go_expr_syntax.specs.Reading.{Quoted}
@@ -72,14 +73,17 @@ binary op x y = record { expr = e.Binary op x.expr y.expr x.at; at = x.at }
 
 -- ---- the grammar
 
--- An expression with the binary operators of the first levels, up to this one. With none of them it is a unary expression, with those of level 5 any.
+-- An expression with the binary operators of the first levels, up to this one. With none of them it is a unary
+-- expression, with those of level 5 any.
 pub data IsExpr : ℕ → ℕ → List Symbol → Operand → List Symbol → Type 0 where
   a_literal : (token : Token) (rest : List Symbol) → IsExpr 0 1 (t.Literal token ∷ rest) (literal token) rest
   a_text : (s : Quoted) (rest : List Symbol) → IsExpr 0 1 (t.Text s ∷ rest) (literal s.0) rest
   a_name : (ts : List Symbol) (x : NameExpr) (rest : List Symbol) → IsTypeName ts x rest
       → IsExpr 0 1 ts (constant x) rest
-  a_conversion : (n : ℕ) (ts : List Symbol) (x : NameExpr) (at : ℕ) (us : List Symbol) (y : Operand) (c : ℕ) (rest : List Symbol)
-      → IsTypeName ts x (t.OpenParen at ∷ us) → IsExpr 5 n us y (t.CloseParen c ∷ rest) → IsExpr 0 (suc n) ts (conversion x y) rest
+  a_conversion : (n : ℕ) (ts : List Symbol) (x : NameExpr) (at : ℕ) (us : List Symbol) (y : Operand) (c : ℕ)
+      (rest : List Symbol)
+      → IsTypeName ts x (t.OpenParen at ∷ us) → IsExpr 5 n us y (t.CloseParen c ∷ rest)
+      → IsExpr 0 (suc n) ts (conversion x y) rest
   in_parens : (n at : ℕ) (ts : List Symbol) (y : Operand) (c : ℕ) (rest : List Symbol)
       → IsExpr 5 n ts y (t.CloseParen c ∷ rest)
       → IsExpr 0 (suc n) (t.OpenParen at ∷ ts) (enclosed at y) rest
@@ -89,6 +93,7 @@ pub data IsExpr : ℕ → ℕ → List Symbol → Operand → List Symbol → Ty
   alone : (l n : ℕ) (ts : List Symbol) (x : Operand) (rest : List Symbol) → IsExpr l n ts x rest
       → IsExpr (suc l) n ts x rest
   -- to the left: what stands before an operator may have operators of its level, what stands behind it may not
-  joined : (l m n : ℕ) (ts : List Symbol) (x : Operand) (k : Symbol) (op : Operator) (us : List Symbol) (y : Operand) (rest : List Symbol)
+  joined : (l m n : ℕ) (ts : List Symbol) (x : Operand) (k : Symbol) (op : Operator) (us : List Symbol) (y : Operand)
+      (rest : List Symbol)
       → IsExpr (suc l) m ts x (k ∷ us) → between_of k ≡ Some op → level op ≡ suc l → IsExpr l n us y rest
       → IsExpr (suc l) (suc (max m n)) ts (binary op x y) rest

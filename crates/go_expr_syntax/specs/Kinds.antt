@@ -5,7 +5,8 @@ use Rattle.go_expr_syntax.specs.declared.reading.Kind.{Kind}
 use Rattle.go_expr_syntax.specs.declared.reading.Kind.TheVariants as k
 use Rattle.go_expr_syntax.specs.Reading.{is_ident, is_semicolon, is_comma, is_dot, is_close_paren, is_open_bracket}
 use Rattle.go_expr_syntax.specs.Reading.{is_close_bracket, is_open_brace, is_close_brace, is_arrow, is_chan, is_package}
-use Rattle.go_expr_syntax.specs.Reading.{is_open_paren, is_assign, is_import, is_var, is_type, is_const, is_star, is_func}
+use Rattle.go_expr_syntax.specs.Reading.{is_open_paren, is_assign, is_import, is_var, is_type, is_const, is_star}
+use Rattle.go_expr_syntax.specs.Reading.{is_func}
 use Rattle.go_expr_syntax.specs.Reading.{is_ellipsis, is_bar, is_tilde, begins_type}
 use Rattle.go_expr_syntax.specs.Operands.{begins_expr, goes_on}
 use Rattle.go_expr_syntax.specs.Reading.{shows_types, shows_type}

@@ -11,7 +11,8 @@ use Rattle.go_expr_syntax.specs.declared.tree.NameExpr.{NameExpr}
 use Rattle.go_expr_syntax.specs.declared.expressions.Operand.{Operand}
 use Rattle.go_expr_syntax.specs.Reading.{Reply, from_start, ◌>>=◌, unexpected, too_deep, past, peek, is_close_paren}
 use Rattle.go_expr_syntax.specs.Names.{dotted}
-use Rattle.go_expr_syntax.specs.Expressions.{level, is_unary, between_of, literal, constant, conversion, enclosed, unary}
+use Rattle.go_expr_syntax.specs.Expressions.{level, is_unary, between_of, literal, constant, conversion, enclosed}
+use Rattle.go_expr_syntax.specs.Expressions.{unary}
 use Rattle.go_expr_syntax.specs.Expressions.{binary}
 
 abbrev pub Sized : Type 0

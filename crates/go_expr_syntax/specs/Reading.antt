@@ -76,7 +76,8 @@ told_at at (Err (Deep k began)) = Err (Deep k at)
 told_at at (Err (DotImport k)) = Err (DotImport k)
 told_at at (Err (Call k c)) = Err (Call k c)
 
--- What is a type or an expression of its own: a path that is too long in it is told at its first token, so the outermost one has the last word.
+-- What is a type or an expression of its own: a path that is too long in it is told at its first token, so the
+-- outermost one has the last word.
 abbrev pub from_start : {X : Type 0} → (List Symbol → Reply X) → List Symbol → Reply X
 from_start p ts = told_at (start_of ts) (p ts)
 
@@ -257,7 +258,8 @@ steps_of (suc n) step ts = step (steps_of n step) ts
 abbrev pub steps : {Y : Type 0} → ((List Symbol → Reply Y) → List Symbol → Reply Y) → List Symbol → Reply Y
 steps step ts = steps_of (suc (length ts)) step ts
 
--- How items are listed: with such a token between each two, and perhaps after the last, up to the one that closes. A final item has to be the last.
+-- How items are listed: with such a token between each two, and perhaps after the last, up to the one that closes.
+-- A final item has to be the last.
 pub record ListForm (X Y : Type 0) : Type 0 where
   pub sep : Symbol → Bool
   pub closes : Symbol → Bool
@@ -276,7 +278,8 @@ series_next S more x vs = if S.final x then series_close S x vs else series_more
 
 -- what follows an item
 abbrev pub series_end : {X Y : Type 0} → ListForm X Y → (List Symbol → Reply Y) → X → List Symbol → Reply Y
-series_end S more x us = choose (past S.closes us) (λ rest. Ok (S.cons x S.nil, rest)) (past S.sep us >>= λ vs. series_next S more x vs)
+series_end S more x us =
+    choose (past S.closes us) (λ rest. Ok (S.cons x S.nil, rest)) (past S.sep us >>= λ vs. series_next S more x vs)
 
 abbrev pub series_item : {X Y : Type 0} → ListForm X Y → (List Symbol → Reply X) → (List Symbol → Reply Y)
     → List Symbol → Reply Y
@@ -325,7 +328,18 @@ Fit X = X × ℕ
 -- items with trees, where n nodes are left for each
 abbrev pub fitting : {X Y : Type 0} → ℕ → (Symbol → Bool) → (Symbol → Bool) → (X → Bool) → (X → Y) → (X → ℕ)
     → ListForm X (Fit (List Y))
-fitting n sep closes final tree fit = record { sep = sep; closes = closes; final = final; nil = ([], n); cons = λ x ys. (tree x ∷ ys.0, min (fit x) ys.1) }
+fitting n sep closes final tree fit =
+    record {
+      sep = sep;
+      closes = closes;
+      final = final;
+      nil = ([], n);
+      cons = λ x ys. (
+        tree x
+            ∷ ys.0,
+        min (fit x) ys.1,
+      );
+    }
 
 -- such a list behind another
 abbrev pub with_fit : {Y : Type 0} → Fit (List Y) → Reply (Fit (List Y)) → Reply (Fit (List Y))

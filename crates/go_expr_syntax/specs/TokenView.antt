@@ -85,7 +85,8 @@ triple_symbol a at = if a == 46 then t.Ellipsis at else t.Other at
 -- an operator or punctuation that begins so and has so many bytes
 abbrev pub mark_symbol : ℕ → Option ℕ → Option ℕ → ℕ → Symbol
 mark_symbol len None second at = t.Other at
-mark_symbol len (Some a) second at = if len == 1 then single_symbol a at else (if len == 2 then pair_symbol a second at else triple_symbol a at)
+mark_symbol len (Some a) second at =
+    if len == 1 then single_symbol a at else (if len == 2 then pair_symbol a second at else triple_symbol a at)
 
 -- the bytes between two places, or none where these are no places
 abbrev pub text_of : List ℕ → ℕ → ℕ → List ℕ
@@ -96,7 +97,8 @@ symbol_by src token kind.Ident start end = t.Ident (record { start = start; end 
 symbol_by src token (kind.Word keyword) start end = keyword_symbol keyword start
 symbol_by src token kind.Text start end = t.Text (token, text_of src start end)
 symbol_by src token kind.Inserted start end = t.Semicolon start
-symbol_by src token kind.Mark start end = mark_symbol (end - start) (slice_get src start) (slice_get src (start + 1)) start
+symbol_by src token kind.Mark start end =
+    mark_symbol (end - start) (slice_get src start) (slice_get src (start + 1)) start
 symbol_by src token _ start end = t.Literal token
 
 -- what the grammar sees of a token

@@ -33,25 +33,31 @@ pub data IsExprs : ℕ → List Symbol → List Expr → List Symbol → Type 0 
 pub data IsConstSpec : ℕ → List Symbol → Written → List Symbol → Type 0 where
   as_before : (ts : List Symbol) (i : Ident) (names : List Ident) (rest : List Symbol) → IsNames ts (i ∷ names) rest
       → IsConstSpec 0 ts (written (i ∷ names) None []) rest
-  untyped : (n a : ℕ) (ts : List Symbol) (i : Ident) (names : List Ident) (us : List Symbol) (values : List Expr) (rest : List Symbol) → IsNames ts (i ∷ names) (t.Assign a ∷ us) → IsExprs n us values rest
+  untyped : (n a : ℕ) (ts : List Symbol) (i : Ident) (names : List Ident) (us : List Symbol) (values : List Expr)
+      (rest : List Symbol) → IsNames ts (i ∷ names) (t.Assign a ∷ us) → IsExprs n us values rest
       → IsConstSpec n ts (written (i ∷ names) None values) rest
-  typed : (m n a : ℕ) (ts : List Symbol) (i : Ident) (names : List Ident) (us : List Symbol) (ty : TypeExpr) (vs : List Symbol) (values : List Expr) (rest : List Symbol)
-      → IsNames ts (i ∷ names) us → IsType m us ty (t.Assign a ∷ vs) → IsExprs n vs values rest → IsConstSpec (max m n) ts (written (i ∷ names) (Some ty) values) rest
+  typed : (m n a : ℕ) (ts : List Symbol) (i : Ident) (names : List Ident) (us : List Symbol) (ty : TypeExpr)
+      (vs : List Symbol) (values : List Expr) (rest : List Symbol)
+      → IsNames ts (i ∷ names) us → IsType m us ty (t.Assign a ∷ vs) → IsExprs n vs values rest
+      → IsConstSpec (max m n) ts (written (i ∷ names) (Some ty) values) rest
 
 -- ---- what they declare
 
--- the number of the specification whose type and values one has: its own, unless it has no values, and then that of the last before it that has some
+-- the number of the specification whose type and values one has: its own, unless it has no values, and then that of
+-- the last before it that has some
 abbrev pub source_of : List Expr → ℕ → ℕ → ℕ
 source_of [] iota last = last
 source_of (x ∷ xs) iota last = iota
 
 abbrev pub constants : Written → ℕ → ℕ → Top
-constants w iota source = top.Constant (record { names = w.names; ty = w.ty; values = w.values; iota = iota; source = source })
+constants w iota source =
+    top.Constant (record { names = w.names; ty = w.ty; values = w.values; iota = iota; source = source })
 
 -- the specifications of a group, counted from iota on
 abbrev pub counted : ℕ → ℕ → List Written → List Top
 counted iota last [] = []
-counted iota last (w ∷ ws) = constants w iota (source_of w.values iota last) ∷ counted (suc iota) (source_of w.values iota last) ws
+counted iota last (w ∷ ws) =
+    constants w iota (source_of w.values iota last) ∷ counted (suc iota) (source_of w.values iota last) ws
 
 -- ---- reading
 
@@ -81,7 +87,9 @@ const_empty names ts = Ok (written names None [], ts)
 
 -- after the names
 abbrev pub const_rest : ℕ → List Ident → List Symbol → Reply Written
-const_rest n names ts = choose (past is_assign ts) (const_values n names None) (peek begins_type ts (const_typed n names ts) (const_empty names ts))
+const_rest n names ts =
+    choose (past is_assign ts) (const_values n names None)
+    (peek begins_type ts (const_typed n names ts) (const_empty names ts))
 
 abbrev pub const_more : ℕ → Ident → List Symbol → Reply Written
 const_more n i ts = names_more names_at i ts >>= λ names. const_rest n names.0 names.1

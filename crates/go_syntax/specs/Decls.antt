@@ -1,4 +1,5 @@
--- The grammar of declarations and files, a production a case. The number is that of the nodes on a longest path of a tree.
+-- The grammar of declarations and files, a production a case. The number is that of the nodes on a longest path of
+-- a tree.
 use Rattle.std.specs.Prelude.{◌≡◌, ℕ, max, true, false, List, [], ◌∷◌, ◌++◌, Option, Some, None}
 use Rattle.go_expr_syntax.specs.declared.symbols.Symbol.{Symbol}
 use Rattle.go_expr_syntax.specs.declared.symbols.Symbol.TheVariants as t
@@ -49,7 +50,8 @@ pub data IsValue : List Symbol → List Symbol → Type 0 where
 
 -- VarSpec = IdentifierList ( Type [ "=" skipped ] | "=" skipped )
 pub data IsVarSpec : ℕ → List Symbol → Top → List Symbol → Type 0 where
-  of_type : (n : ℕ) (ts : List Symbol) (i : Ident) (names : List Ident) (us : List Symbol) (ty : TypeExpr) (vs rest : List Symbol) → IsNames ts (i ∷ names) us → IsType n us ty vs → IsValue vs rest
+  of_type : (n : ℕ) (ts : List Symbol) (i : Ident) (names : List Ident) (us : List Symbol) (ty : TypeExpr)
+      (vs rest : List Symbol) → IsNames ts (i ∷ names) us → IsType n us ty vs → IsValue vs rest
       → IsVarSpec n ts (vars (i ∷ names) (Some ty)) rest
   of_value : (a : ℕ) (ts : List Symbol) (i : Ident) (names : List Ident) (us rest : List Symbol)
       → IsNames ts (i ∷ names) (t.Assign a ∷ us) → IsSkipped true us rest
@@ -62,13 +64,18 @@ pub data IsTypeSpec : ℕ → List Symbol → Top → List Symbol → Type 0 whe
   renames : (n : ℕ) (i : Ident) (a : ℕ) (ts : List Symbol) (ty : TypeExpr) (rest : List Symbol) → IsType n ts ty rest
       → IsTypeSpec n (t.Ident i ∷ t.Assign a ∷ ts) (alias i [] ty) rest
   -- a bracket and an identifier open type parameters, unless the token after them goes on with a length
-  defines_generic : (m n : ℕ) (i : Ident) (a : ℕ) (j : Ident) (ts : List Symbol) (ps : List TParam) (us : List Symbol) (ty : TypeExpr) (rest : List Symbol)
-      → starts shows_length ts ≡ false → IsTParams m (t.Ident j ∷ ts) ps us → IsType n us ty rest → IsTypeSpec (max m n) (t.Ident i ∷ t.OpenBracket a ∷ t.Ident j ∷ ts) (defined i ps ty) rest
-  renames_generic : (m n : ℕ) (i : Ident) (a : ℕ) (j : Ident) (ts : List Symbol) (ps : List TParam) (e : ℕ) (us : List Symbol) (ty : TypeExpr) (rest : List Symbol)
-      → starts shows_length ts ≡ false → IsTParams m (t.Ident j ∷ ts) ps (t.Assign e ∷ us) → IsType n us ty rest → IsTypeSpec (max m n) (t.Ident i ∷ t.OpenBracket a ∷ t.Ident j ∷ ts) (alias i ps ty) rest
+  defines_generic : (m n : ℕ) (i : Ident) (a : ℕ) (j : Ident) (ts : List Symbol) (ps : List TParam) (us : List Symbol)
+      (ty : TypeExpr) (rest : List Symbol)
+      → starts shows_length ts ≡ false → IsTParams m (t.Ident j ∷ ts) ps us → IsType n us ty rest
+      → IsTypeSpec (max m n) (t.Ident i ∷ t.OpenBracket a ∷ t.Ident j ∷ ts) (defined i ps ty) rest
+  renames_generic : (m n : ℕ) (i : Ident) (a : ℕ) (j : Ident) (ts : List Symbol) (ps : List TParam) (e : ℕ)
+      (us : List Symbol) (ty : TypeExpr) (rest : List Symbol)
+      → starts shows_length ts ≡ false → IsTParams m (t.Ident j ∷ ts) ps (t.Assign e ∷ us) → IsType n us ty rest
+      → IsTypeSpec (max m n) (t.Ident i ∷ t.OpenBracket a ∷ t.Ident j ∷ ts) (alias i ps ty) rest
 
 -- specifications up to the parenthesis that closes; the last semicolon may be left out
-pub data IsBlock {X : Type 0} (F : ℕ → List Symbol → X → List Symbol → Type 0) : ℕ → List Symbol → List X → List Symbol → Type 0 where
+pub data IsBlock {X : Type 0} (F : ℕ → List Symbol → X → List Symbol → Type 0) : ℕ → List Symbol → List X → List Symbol
+    → Type 0 where
   none_in_block : (c : ℕ) (rest : List Symbol) → IsBlock F 0 (t.CloseParen c ∷ rest) [] rest
   last_in_block : (n c : ℕ) (ts : List Symbol) (x : X) (rest : List Symbol) → F n ts x (t.CloseParen c ∷ rest)
       → IsBlock F n ts (x ∷ []) rest
@@ -76,7 +83,8 @@ pub data IsBlock {X : Type 0} (F : ℕ → List Symbol → X → List Symbol →
       → F m ts x (t.Semicolon s ∷ us) → IsBlock F n us xs rest → IsBlock F (max m n) ts (x ∷ xs) rest
 
 -- one specification, or several in parentheses
-pub data IsGroup {X : Type 0} (F : ℕ → List Symbol → X → List Symbol → Type 0) : ℕ → List Symbol → List X → List Symbol → Type 0 where
+pub data IsGroup {X : Type 0} (F : ℕ → List Symbol → X → List Symbol → Type 0) : ℕ → List Symbol → List X → List Symbol
+    → Type 0 where
   single : (n : ℕ) (ts : List Symbol) (x : X) (rest : List Symbol) → F n ts x rest → IsGroup F n ts (x ∷ []) rest
   grouped : (n o : ℕ) (ts : List Symbol) (xs : List X) (rest : List Symbol) → IsBlock F n ts xs rest
       → IsGroup F n (t.OpenParen o ∷ ts) xs rest
@@ -106,5 +114,6 @@ pub data IsTops : ℕ → List Symbol → List Top → List Symbol → Type 0 wh
 
 -- SourceFile = PackageClause ";" { ImportDecl ";" } { TopLevelDecl ";" }
 pub data IsFileOf : ℕ → List Symbol → SourceFile → List Symbol → Type 0 where
-  file : (m n at : ℕ) (i : Ident) (s : ℕ) (ts us : List Symbol) (imports : List Import) (tops : List Top) (rest : List Symbol) → IsImports m ts imports us → IsTops n us tops rest
+  file : (m n at : ℕ) (i : Ident) (s : ℕ) (ts us : List Symbol) (imports : List Import) (tops : List Top)
+      (rest : List Symbol) → IsImports m ts imports us → IsTops n us tops rest
       → IsFileOf (max m n) (t.Package at ∷ t.Ident i ∷ t.Semicolon s ∷ ts) (source_file i imports tops) rest

@@ -62,11 +62,14 @@ pub data IsBody : List Symbol → List Symbol → Type 0 where
   body : (o c : ℕ) (ts rest : List Symbol) → IsSkipped false ts (t.CloseBrace c ∷ rest)
       → IsBody (t.OpenBrace o ∷ ts) rest
 
--- FunctionDecl = "func" identifier [ TypeParams ] Signature [ Body ], MethodDecl = "func" Receiver identifier Signature [ Body ], after the word
+-- FunctionDecl = "func" identifier [ TypeParams ] Signature [ Body ], MethodDecl = "func" Receiver identifier
+-- Signature [ Body ], after the word
 pub data IsFunc : ℕ → List Symbol → FuncDecl → List Symbol → Type 0 where
-  plain_func : (m n : ℕ) (i : Ident) (ts : List Symbol) (ps : List TParam) (us vs : List Symbol) (sig : SigExpr) (rest : List Symbol) → IsGeneric m ts ps us → IsSig n us sig vs → IsBody vs rest
+  plain_func : (m n : ℕ) (i : Ident) (ts : List Symbol) (ps : List TParam) (us vs : List Symbol) (sig : SigExpr)
+      (rest : List Symbol) → IsGeneric m ts ps us → IsSig n us sig vs → IsBody vs rest
       → IsFunc (max m n) (t.Ident i ∷ ts) (function None i ps sig) rest
-  method_func : (n o : ℕ) (ts : List Symbol) (r : Receiver) (i : Ident) (us vs : List Symbol) (sig : SigExpr) (rest : List Symbol) → IsReceiver ts r (t.Ident i ∷ us) → IsSig n us sig vs → IsBody vs rest
+  method_func : (n o : ℕ) (ts : List Symbol) (r : Receiver) (i : Ident) (us vs : List Symbol) (sig : SigExpr)
+      (rest : List Symbol) → IsReceiver ts r (t.Ident i ∷ us) → IsSig n us sig vs → IsBody vs rest
       → IsFunc n (t.OpenParen o ∷ ts) (function (Some r) i [] sig) rest
 
 -- ---- reading
@@ -101,7 +104,9 @@ receiver_pointer name ts = ident_at ts >>= λ base. receiver_base name true base
 
 -- after the first identifier
 abbrev pub receiver_first : Ident → List Symbol → Reply Receiver
-receiver_first i ts = ident_or (ident_at ts) (receiver_base (Some i) false) (choose (past is_star ts) (receiver_pointer (Some i)) (receiver_base None false i ts))
+receiver_first i ts =
+    ident_or (ident_at ts) (receiver_base (Some i) false)
+    (choose (past is_star ts) (receiver_pointer (Some i)) (receiver_base None false i ts))
 
 abbrev pub receiver_at : List Symbol → Reply Receiver
 receiver_at ts = choose (past is_star ts) (receiver_pointer None) (ident_at ts >>= λ i. receiver_first i.0 i.1)

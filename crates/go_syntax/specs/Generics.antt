@@ -19,7 +19,8 @@ tparam names constraint at = record { names = names; constraint = constraint; at
 
 -- TypeParam = IdentifierList Union
 pub data IsTParam : ℕ → List Symbol → TParam → List Symbol → Type 0 where
-  constrained : (n : ℕ) (ts : List Symbol) (i : Ident) (names : List Ident) (us : List Symbol) (ty : TypeExpr) (rest : List Symbol) → IsNames ts (i ∷ names) us → IsUnion n us ty rest
+  constrained : (n : ℕ) (ts : List Symbol) (i : Ident) (names : List Ident) (us : List Symbol) (ty : TypeExpr)
+      (rest : List Symbol) → IsNames ts (i ∷ names) us → IsUnion n us ty rest
       → IsTParam n ts (tparam (i ∷ names) ty i.start) rest
 
 -- up to the bracket that closes, with a comma between each two, and perhaps after the last

@@ -43,11 +43,13 @@ answer_of src tokens (Err (stopped.At f)) = Err (fault_of src tokens f)
 abbrev pub TellsOut : List ℕ → List Token → ℕ → LeftOutKind → Type 0
 TellsOut src tokens at what.Depth = (left : ℕ) × IsTooDeep MAX_DEPTH (symbols_of src tokens) left
 TellsOut src tokens at what.Call = (left : ℕ) × IsUnexpected (symbols_of src tokens) left
-TellsOut src tokens at what.DotImport = (left : ℕ) × (at ≡ place_of src tokens left) × IsUnexpected (symbols_of src tokens) left
+TellsOut src tokens at what.DotImport =
+    (left : ℕ) × (at ≡ place_of src tokens left) × IsUnexpected (symbols_of src tokens) left
 
 -- what each fault says of the tokens
 abbrev pub Tells : List ℕ → List Token → SyntaxFault → Type 0
-Tells src tokens (fault.Unexpected at) = (left : ℕ) × (at ≡ place_of src tokens left) × IsUnexpected (symbols_of src tokens) left
+Tells src tokens (fault.Unexpected at) =
+    (left : ℕ) × (at ≡ place_of src tokens left) × IsUnexpected (symbols_of src tokens) left
 Tells src tokens (fault.LeftOut at w) = TellsOut src tokens at w
 Tells src tokens fault.OutOfMemory = Unit {0}
 

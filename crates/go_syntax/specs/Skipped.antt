@@ -71,6 +71,12 @@ skip line open_ones (k ∷ ts) = skip_on line open_ones (λ bs. skip line bs ts)
 
 -- what a token does where the old brackets are open: the new ones are after it
 abbrev pub Steps : Bool → List Bracket → Symbol → Step → List Bracket → Type 0
-Steps line old k step.Goes new = (more : List Bracket → Reply (Unit {0})) (ts : List Symbol) → skip_on line old more k ts (opened k) (closed k) ≡ more new
-Steps line old k step.Ends new = (more : List Bracket → Reply (Unit {0})) (ts : List Symbol) → skip_on line old more k ts (opened k) (closed k) ≡ Ok (tt, k ∷ ts)
-Steps line old k step.Clashes new = (more : List Bracket → Reply (Unit {0})) (ts : List Symbol) → skip_on line old more k ts (opened k) (closed k) ≡ unexpected (k ∷ ts)
+Steps line old k step.Goes new =
+    (more : List Bracket → Reply (Unit {0})) (ts : List Symbol)
+    → skip_on line old more k ts (opened k) (closed k) ≡ more new
+Steps line old k step.Ends new =
+    (more : List Bracket → Reply (Unit {0})) (ts : List Symbol)
+    → skip_on line old more k ts (opened k) (closed k) ≡ Ok (tt, k ∷ ts)
+Steps line old k step.Clashes new =
+    (more : List Bracket → Reply (Unit {0})) (ts : List Symbol)
+    → skip_on line old more k ts (opened k) (closed k) ≡ unexpected (k ∷ ts)

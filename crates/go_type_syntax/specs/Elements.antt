@@ -1,4 +1,5 @@
--- Unions and the elements of interfaces, as they are read. inner reads the types inside, where n nodes are left for them, and lower those
+-- Unions and the elements of interfaces, as they are read. inner reads the types inside, where n nodes are left for
+-- them, and lower those
 -- that stand a node deeper.
 use Rattle.std.specs.Prelude.{ℕ, zero, suc, min, Bool, true, false, List, [], ◌∷◌, Ok}
 use Rattle.go_expr_syntax.specs.declared.symbols.Symbol.{Symbol}
@@ -59,10 +60,13 @@ more_terms lower x at ts = terms_at lower ts >>= λ xs. Ok ((y.Union (x.0 ∷ xs
 -- after a first term without a tilde: before a bar it stands a node deeper
 abbrev pub after_type : (List Symbol → Reply (Fit TypeExpr)) → TypeExpr → ℕ → ℕ → List Symbol → Reply (Fit TypeExpr)
 after_type lower ty zero at ts = peek is_bar ts (too_deep ts) (Ok ((ty, 0), ts))
-after_type lower ty (suc fit) at ts = choose (past is_bar ts) (more_terms lower (term false ty at, fit) at) (Ok ((ty, suc fit), ts))
+after_type lower ty (suc fit) at ts =
+    choose (past is_bar ts) (more_terms lower (term false ty at, fit) at) (Ok ((ty, suc fit), ts))
 
 abbrev pub after_tilde : (List Symbol → Reply (Fit TypeExpr)) → Fit TypeExpr → ℕ → List Symbol → Reply (Fit TypeExpr)
-after_tilde lower ty at ts = choose (past is_bar ts) (more_terms lower (term true ty.0 at, ty.1) at) (Ok ((y.Union (term true ty.0 at ∷ []) at, ty.1), ts))
+after_tilde lower ty at ts =
+    choose (past is_bar ts) (more_terms lower (term true ty.0 at, ty.1) at)
+    (Ok ((y.Union (term true ty.0 at ∷ []) at, ty.1), ts))
 
 abbrev pub tilde_by : (List Symbol → Reply (Fit TypeExpr)) → ℕ → List Symbol → Reply (Fit TypeExpr)
 tilde_by lower at ts = lower ts >>= λ ty. after_tilde lower ty.0 at ty.1
@@ -102,7 +106,8 @@ named_elem n inner lower i ts = peek is_open_paren ts (method_by n inner i ts) (
 
 abbrev pub union_elem : ℕ → (List Symbol → Reply (Fit TypeExpr)) → (List Symbol → Reply (Fit TypeExpr)) → List Symbol
     → Reply (Fit ElemExpr)
-union_elem n inner lower ts = placed (union_at n inner lower) ts >>= λ ty. Ok ((elem.Embedded ty.0.0.0 ty.0.1, ty.0.0.1), ty.1)
+union_elem n inner lower ts =
+    placed (union_at n inner lower) ts >>= λ ty. Ok ((elem.Embedded ty.0.0.0 ty.0.1, ty.0.0.1), ty.1)
 
 abbrev pub elem_at : ℕ → (List Symbol → Reply (Fit TypeExpr)) → (List Symbol → Reply (Fit TypeExpr)) → List Symbol
     → Reply (Fit ElemExpr)

@@ -1,4 +1,5 @@
--- The grammar of types and of what stands inside them, a production a case. The number of a type is that of the nodes on a longest path of its tree.
+-- The grammar of types and of what stands inside them, a production a case. The number of a type is that of the
+-- nodes on a longest path of its tree.
 use Rattle.std.specs.Prelude.{◌≡◌, ℕ, suc, max, true, false, Bool, List, [], ◌∷◌}
 use Rattle.go_expr_syntax.specs.declared.symbols.Symbol.{Symbol}
 use Rattle.go_expr_syntax.specs.declared.symbols.Symbol.TheVariants as t
@@ -49,7 +50,8 @@ mutual
     array : (m n at c : ℕ) (ts : List Symbol) (length : Operand) (us : List Symbol) (ty : TypeExpr) (rest : List Symbol)
         → IsExpr 5 m ts length (t.CloseBracket c ∷ us) → IsType n us ty rest
         → IsType (suc (max m n)) (t.OpenBracket at ∷ ts) (y.Array length.expr ty at) rest
-    map_of : (m n at b c : ℕ) (ts : List Symbol) (key : TypeExpr) (us : List Symbol) (ty : TypeExpr) (rest : List Symbol)
+    map_of : (m n at b c : ℕ) (ts : List Symbol) (key : TypeExpr) (us : List Symbol) (ty : TypeExpr)
+        (rest : List Symbol)
         → IsType m ts key (t.CloseBracket c ∷ us) → IsType n us ty rest
         → IsType (suc (max m n)) (t.Map at ∷ t.OpenBracket b ∷ ts) (y.MapOf key ty at) rest
     -- an arrow after `chan` belongs to it
@@ -87,12 +89,15 @@ mutual
         → IsType m ts ty (t.Comma s ∷ us) → IsTypes n us types rest → IsTypes (max m n) ts (ty ∷ types) rest
 
   pub data IsField : ℕ → List Symbol → FieldExpr → List Symbol → Type 0 where
-    shared : (n : ℕ) (i : Ident) (names : List Ident) (ts us : List Symbol) (ty : TypeExpr) (vs : List Symbol) (tag : List ℕ) (rest : List Symbol)
-        → IsNames ts (i ∷ names) us → IsType n us ty vs → IsTag vs tag rest → IsField n ts (field (i ∷ names) ty tag i.start) rest
+    shared : (n : ℕ) (i : Ident) (names : List Ident) (ts us : List Symbol) (ty : TypeExpr) (vs : List Symbol)
+        (tag : List ℕ) (rest : List Symbol)
+        → IsNames ts (i ∷ names) us → IsType n us ty vs → IsTag vs tag rest
+        → IsField n ts (field (i ∷ names) ty tag i.start) rest
     embedded : (n : ℕ) (ts : List Symbol) (ty : TypeExpr) (us : List Symbol) (tag : List ℕ) (rest : List Symbol)
         → IsNamed n ts ty us → IsTag us tag rest
         → IsField n ts (field [] ty tag (start_of ts)) rest
-    embedded_pointer : (n at : ℕ) (ts : List Symbol) (ty : TypeExpr) (us : List Symbol) (tag : List ℕ) (rest : List Symbol) → IsNamed n ts ty us → IsTag us tag rest
+    embedded_pointer : (n at : ℕ) (ts : List Symbol) (ty : TypeExpr) (us : List Symbol) (tag : List ℕ)
+        (rest : List Symbol) → IsNamed n ts ty us → IsTag us tag rest
         → IsField (suc n) (t.Star at ∷ ts) (field [] (y.Pointer ty at) tag at) rest
 
   -- up to the brace that closes; the last semicolon may be left out
@@ -107,21 +112,26 @@ mutual
   pub data IsParam : Bool → Bool → Bool → ℕ → List Symbol → ParamExpr → List Symbol → Type 0 where
     unnamed : (v : Bool) (n : ℕ) (ts : List Symbol) (ty : TypeExpr) (rest : List Symbol) → IsType n ts ty rest
         → IsParam false v false n ts (param [] false ty (start_of ts)) rest
-    sharing : (v : Bool) (n : ℕ) (i : Ident) (names : List Ident) (ts us : List Symbol) (ty : TypeExpr) (rest : List Symbol)
-        → IsNames ts (i ∷ names) us → IsType n us ty rest → IsParam true v false n ts (param (i ∷ names) false ty i.start) rest
+    sharing : (v : Bool) (n : ℕ) (i : Ident) (names : List Ident) (ts us : List Symbol) (ty : TypeExpr)
+        (rest : List Symbol)
+        → IsNames ts (i ∷ names) us → IsType n us ty rest
+        → IsParam true v false n ts (param (i ∷ names) false ty i.start) rest
     unnamed_rest : (n at : ℕ) (ts : List Symbol) (ty : TypeExpr) (rest : List Symbol) → IsType n ts ty rest
         → IsParam false true true n (t.Ellipsis at ∷ ts) (param [] true ty at) rest
     named_rest : (n : ℕ) (i : Ident) (at : ℕ) (ts : List Symbol) (ty : TypeExpr) (rest : List Symbol)
         → IsType n ts ty rest
         → IsParam true true true n (t.Ident i ∷ t.Ellipsis at ∷ ts) (param (i ∷ []) true ty i.start) rest
 
-  -- up to the parenthesis that closes; all have names or none has, and only the last may be variadic; a comma may stand after it
+  -- up to the parenthesis that closes; all have names or none has, and only the last may be variadic; a comma may
+  -- stand after it
   pub data IsParams : Bool → Bool → ℕ → List Symbol → List ParamExpr → List Symbol → Type 0 where
     no_param : (w v : Bool) (c : ℕ) (rest : List Symbol) → IsParams w v 0 (t.CloseParen c ∷ rest) [] rest
     last_param : (w v f : Bool) (n c : ℕ) (ts : List Symbol) (x : ParamExpr) (rest : List Symbol)
         → IsParam w v f n ts x (t.CloseParen c ∷ rest) → IsParams w v n ts (x ∷ []) rest
-    more_params : (w v : Bool) (m n s : ℕ) (ts us : List Symbol) (x : ParamExpr) (xs : List ParamExpr) (rest : List Symbol)
-        → IsParam w v false m ts x (t.Comma s ∷ us) → IsParams w v n us xs rest → IsParams w v (max m n) ts (x ∷ xs) rest
+    more_params : (w v : Bool) (m n s : ℕ) (ts us : List Symbol) (x : ParamExpr) (xs : List ParamExpr)
+        (rest : List Symbol)
+        → IsParam w v false m ts x (t.Comma s ∷ us) → IsParams w v n us xs rest
+        → IsParams w v (max m n) ts (x ∷ xs) rest
     variadic_comma : (w v : Bool) (n s c : ℕ) (ts : List Symbol) (x : ParamExpr) (rest : List Symbol)
         → IsParam w v true n ts x (t.Comma s ∷ t.CloseParen c ∷ rest) → IsParams w v n ts (x ∷ []) rest
 

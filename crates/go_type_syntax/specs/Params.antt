@@ -31,7 +31,8 @@ abbrev pub type_param : (List Symbol → Reply (Fit TypeExpr)) → List Symbol �
 type_param inner ts = placed inner ts >>= λ ty. Ok (item [] false ty.0.0 ty.0.1, ty.1)
 
 abbrev pub unnamed_param : Bool → (List Symbol → Reply (Fit TypeExpr)) → List Symbol → Reply Param
-unnamed_param true inner ts = choose (past is_ellipsis ts) (param_type inner [] true (start_of ts)) (type_param inner ts)
+unnamed_param true inner ts =
+    choose (past is_ellipsis ts) (param_type inner [] true (start_of ts)) (type_param inner ts)
 unnamed_param false inner ts = type_param inner ts
 
 -- ---- with names
@@ -42,7 +43,8 @@ dots_or false q other ts = other ts
 
 -- after a parameter's only name
 abbrev pub lone_param : Bool → (List Symbol → Reply (Fit TypeExpr)) → Ident → List Symbol → Reply Param
-lone_param v inner i ts = dots_or v (param_type inner (i ∷ []) true i.start) (param_type inner (i ∷ []) false i.start) ts
+lone_param v inner i ts =
+    dots_or v (param_type inner (i ∷ []) true i.start) (param_type inner (i ∷ []) false i.start) ts
 
 abbrev pub more_params : (List Symbol → Reply (Fit TypeExpr)) → Ident → List Symbol → Reply Param
 more_params inner i ts = names_more names_at i ts >>= λ names. param_type inner names.0 false i.start names.1
@@ -88,7 +90,9 @@ after_bare v (suc n) inner (i ∷ names) ts = with_fit (map bare (i ∷ names), 
 abbrev pub types_by : Bool → ℕ → (List Symbol → Reply (Fit TypeExpr)) → List Ident → Ident → List Symbol
     → Reply (Fit (List ParamExpr))
 types_by v zero inner names i ts = too_deep ts
-types_by v (suc n) inner names i ts = inner (t.Ident i ∷ ts) >>= λ ty. with_fit (map bare names, n) (params_end false v (suc n) inner (item [] false ty.0 i.start) ty.1)
+types_by v (suc n) inner names i ts =
+    inner (t.Ident i ∷ ts) >>= λ ty. with_fit (map bare names, n)
+    (params_end false v (suc n) inner (item [] false ty.0 i.start) ty.1)
 
 -- the first parameter with names, after the last of them
 abbrev pub names_by : Bool → (List Symbol → Reply (Fit TypeExpr)) → List Ident → Ident → List Symbol → Reply Param
@@ -97,7 +101,8 @@ names_by v inner (j ∷ names) i ts = param_type inner (j ∷ names ++ i ∷ [])
 
 abbrev pub named_by : Bool → ℕ → (List Symbol → Reply (Fit TypeExpr)) → List Ident → Ident → List Symbol
     → Reply (Fit (List ParamExpr))
-named_by v n inner names i ts = names_by v inner names i ts >>= λ x. with_fit ([], n) (params_end true v n inner x.0 x.1)
+named_by v n inner names i ts =
+    names_by v inner names i ts >>= λ x. with_fit ([], n) (params_end true v n inner x.0 x.1)
 
 -- before a bracket: the name of a parameter that is an array or a slice, or a type with arguments
 abbrev pub array_or_instance : Bool → ℕ → (List Symbol → Reply (Fit TypeExpr)) → List Ident → Ident → List Symbol
@@ -106,12 +111,14 @@ array_or_instance v n inner names i ts = either (named_by v n inner names i ts) 
 
 abbrev pub name_or_type : Bool → ℕ → (List Symbol → Reply (Fit TypeExpr)) → List Ident → Ident → List Symbol
     → Reply (Fit (List ParamExpr))
-name_or_type v n inner names i ts = peek is_open_bracket ts (array_or_instance v n inner names i ts) (named_by v n inner names i ts)
+name_or_type v n inner names i ts =
+    peek is_open_bracket ts (array_or_instance v n inner names i ts) (named_by v n inner names i ts)
 
 -- after an identifier with no comma behind
 abbrev pub after_ident : Bool → ℕ → (List Symbol → Reply (Fit TypeExpr)) → List Ident → Ident → List Symbol
     → Reply (Fit (List ParamExpr))
-after_ident v n inner names i ts = peek shows_type ts (types_by v n inner names i ts) (name_or_type v n inner names i ts)
+after_ident v n inner names i ts =
+    peek shows_type ts (types_by v n inner names i ts) (name_or_type v n inner names i ts)
 
 -- parameters, after identifiers with a comma behind each
 abbrev pub params_from : Bool → ℕ → (List Symbol → Reply (Fit TypeExpr)) → List Ident → List Symbol
@@ -125,11 +132,13 @@ params_from v n inner names (k ∷ ts) = after_bare v n inner names (k ∷ ts)
 
 abbrev pub result_list : ℕ → (List Symbol → Reply (Fit TypeExpr)) → ℕ → Fit (List ParamExpr) → List Symbol
     → Reply (Fit SigExpr)
-result_list n inner at ps ts = params_from false n inner [] ts >>= λ rs. Ok ((signature ps.0 rs.0.0 at, min ps.1 rs.0.1), rs.1)
+result_list n inner at ps ts =
+    params_from false n inner [] ts >>= λ rs. Ok ((signature ps.0 rs.0.0 at, min ps.1 rs.0.1), rs.1)
 
 abbrev pub result_type : (List Symbol → Reply (Fit TypeExpr)) → ℕ → Fit (List ParamExpr) → List Symbol
     → Reply (Fit SigExpr)
-result_type inner at ps ts = type_param inner ts >>= λ x. Ok ((signature ps.0 ((x.0).expr ∷ []) at, min ps.1 (x.0).fit), x.1)
+result_type inner at ps ts =
+    type_param inner ts >>= λ x. Ok ((signature ps.0 ((x.0).expr ∷ []) at, min ps.1 (x.0).fit), x.1)
 
 abbrev pub no_results : ℕ → Fit (List ParamExpr) → List Symbol → Reply (Fit SigExpr)
 no_results at ps ts = Ok ((signature ps.0 [] at, ps.1), ts)
@@ -137,7 +146,9 @@ no_results at ps ts = Ok ((signature ps.0 [] at, ps.1), ts)
 -- after the parameters
 abbrev pub results_by : ℕ → (List Symbol → Reply (Fit TypeExpr)) → ℕ → Fit (List ParamExpr) → List Symbol
     → Reply (Fit SigExpr)
-results_by n inner at ps ts = choose (past is_open_paren ts) (result_list n inner at ps) (peek begins_type ts (result_type inner at ps ts) (no_results at ps ts))
+results_by n inner at ps ts =
+    choose (past is_open_paren ts) (result_list n inner at ps)
+    (peek begins_type ts (result_type inner at ps ts) (no_results at ps ts))
 
 -- after the parenthesis
 abbrev pub sig_by : ℕ → (List Symbol → Reply (Fit TypeExpr)) → ℕ → List Symbol → Reply (Fit SigExpr)

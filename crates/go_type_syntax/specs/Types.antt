@@ -95,7 +95,8 @@ more_names inner i ts = names_more names_at i ts >>= λ names. shared_by inner n
 abbrev pub only_by : (List Symbol → Reply (Fit TypeExpr)) → Ident → List Symbol → Reply (Fit FieldExpr)
 only_by inner i ts = shared_by inner (i ∷ []) i.start ts
 
--- after an identifier before a bracket: the name of a field that is an array or a slice, or an embedded type with arguments
+-- after an identifier before a bracket: the name of a field that is an array or a slice, or an embedded type with
+-- arguments
 abbrev pub array_or_instance : ℕ → (List Symbol → Reply (Fit TypeExpr)) → Ident → List Symbol → Reply (Fit FieldExpr)
 array_or_instance n inner i ts = either (only_by inner i ts) (lone_by n inner i ts)
 
@@ -105,7 +106,9 @@ sole_by n inner i ts = peek is_open_bracket ts (array_or_instance n inner i ts) 
 
 -- after a field's first identifier
 abbrev pub first_by : ℕ → (List Symbol → Reply (Fit TypeExpr)) → Ident → List Symbol → Reply (Fit FieldExpr)
-first_by n inner i ts = choose (past is_comma ts) (more_names inner i) (peek shows_embedded ts (lone_by n inner i ts) (sole_by n inner i ts))
+first_by n inner i ts =
+    choose (past is_comma ts) (more_names inner i)
+    (peek shows_embedded ts (lone_by n inner i ts) (sole_by n inner i ts))
 
 -- after the star of an embedded pointer
 abbrev pub star_by : (List Symbol → Reply (Fit TypeExpr)) → ℕ → List Symbol → Reply (Fit FieldExpr)

@@ -7,6 +7,7 @@ use Rattle.wire_bytes.proofs.Steps.{done_is}
 use Rattle.wire_bytes.proofs.Spellings.{IsBytes}
 use Rattle.wire_bytes.specs.declared.fault.ReadFault.{ReadFault}
 use Rattle.wire_bytes.specs.declared.fault.ReadFault.TheVariants as errors
+use Rattle.name_index.specs.declared.limits.TheConstants.{FILE_LIMIT}
 use Rattle.name_index.specs.declared.records.Layout.{Layout}
 use Rattle.name_index.specs.FullFile.{FullFile}
 use Rattle.name_index.specs.Envelope.{Envelope}
@@ -30,7 +31,7 @@ is_no_file own bytes (errors.Bytes f) file failed env = let there = file_again o
     no_both there failed = cc
 is_no_file own bytes errors.OutOfMemory file failed env = tt
 
-pub is_open : (own path bytes slice : List ℕ) (l : Layout) → slice ≡ bytes → own ≡ path → length bytes ≤ 16777216 → IsLayout slice l → ArePaths path (spelled_paths slice l)
+pub is_open : (own path bytes slice : List ℕ) (l : Layout) → slice ≡ bytes → own ≡ path → length bytes ≤ FILE_LIMIT → IsLayout slice l → ArePaths path (spelled_paths slice l)
     → Envelope path slice (file_of path slice l) → IsOpen own bytes l
 is_open own path bytes slice l same mine short layout paths env =
     rw mine (subst (λ (b : List ℕ). IsOpen path b l) same (record { short = omega (arith, short, ap length same); layout = layout; paths = paths; envelope = env }))

@@ -5,6 +5,7 @@ use Rattle.wire_bytes.specs.declared.fault.ByteFault.{ByteFault}
 use Rattle.wire_bytes.specs.declared.fault.ReadFault.{ReadFault}
 use Rattle.wire_bytes.specs.declared.fault.ReadFault.TheVariants as errors
 use Rattle.file_parts.specs.Paths.{text_of, IsInside, ArePaths}
+use Rattle.name_index.specs.declared.limits.TheConstants.{FILE_LIMIT}
 use Rattle.name_index.specs.declared.records.EntryRecord.{EntryRecord}
 use Rattle.name_index.specs.declared.records.PackageRecord.{PackageRecord}
 use Rattle.name_index.specs.declared.full.header.HeaderRecord.{HeaderRecord}
@@ -82,7 +83,7 @@ spelled_paths bytes l = map (text_of (content bytes (section_of l.strings))) l.p
 
 -- an open file: what was found in it is the envelope of its bytes
 pub record IsOpen (own bytes : List ℕ) (l : Layout) : Type 0 where
-  pub short : length bytes ≤ 16777216
+  pub short : length bytes ≤ FILE_LIMIT
   pub layout : IsLayout bytes l
   pub paths : ArePaths own (spelled_paths bytes l)
   pub envelope : Envelope own bytes (file_of own bytes l)

@@ -8,6 +8,7 @@ ghost use Rattle.name_index.specs.Envelope.{Envelope};
 ghost use Rattle.name_index.specs.FirstBreach.{section_at, full_file_of};
 ghost use Rattle.file_parts.specs.Paths.{ArePaths};
 ghost use Rattle.name_index.specs.Records.{section_of, file_of, fault_of, IsLayout, spelled_paths};
+ghost use Rattle.name_index.specs.declared.limits.TheConstants.{FILE_LIMIT};
 
 mod entries;
 mod header;
@@ -22,7 +23,7 @@ use wire_bytes::{ByteFault, Cursor, ReadFault};
 /// A section of this size, which lies inside the file.
 #[tactic(auto, unfolding(crate::specs::FirstBreach::section_at))]
 fn read_section(cursor: &mut Cursor<'_>, size: u64) -> Result<SectionRecord, ByteFault>
-    requires { cursor.old.end ≤ 16777216 }
+    requires { cursor.old.end ≤ FILE_LIMIT }
     ensures inside { IfOk result (λ s. s.at + s.len + length cursor.new.left ≡ cursor.old.end) }
     ensures end { cursor.new.end ≡ cursor.old.end }
     ensures exact { GivesBy (λ f. Some f) (λ s. (section_of s, cursor.new)) result (section_at size cursor.old) }
@@ -38,7 +39,7 @@ fn read_section(cursor: &mut Cursor<'_>, size: u64) -> Result<SectionRecord, Byt
 /// The parts of a full file of the path `own`, or the first breach of its form. It goes over the bytes once, and looks
 /// at no byte of the data section.
 pub(crate) fn read_layout(alloc: Global, bytes: &[u8], own: &[u8]) -> Result<Layout, ReadFault>
-    requires { length bytes.now ≤ 16777216 }
+    requires { length bytes.now ≤ FILE_LIMIT }
     ensures inside { IfOk result (λ l. IsLayout bytes.now l) }
     ensures found { IfOk result (λ l. Envelope own.now bytes.now (file_of own.now bytes.now l)) }
     ensures paths { IfOk result (λ l. ArePaths own.now (spelled_paths bytes.now l)) }
@@ -49,7 +50,7 @@ pub(crate) fn read_layout(alloc: Global, bytes: &[u8], own: &[u8]) -> Result<Lay
 
 #[tactic(auto, unfolding(crate::specs::FirstBreach::full_file_of))]
 fn read_parts(alloc: Global, bytes: &[u8], own: &[u8]) -> Result<Layout, ReadFault>
-    requires { length bytes.now ≤ 16777216 }
+    requires { length bytes.now ≤ FILE_LIMIT }
     ensures inside { IfOk result (λ l. IsLayout bytes.now l) }
     ensures paths { IfOk result (λ l. ArePaths own.now (spelled_paths bytes.now l)) }
     ensures exact { GivesBy fault_of (λ l. file_of own.now bytes.now l) result (full_file_of own.now bytes.now) }

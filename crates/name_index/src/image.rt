@@ -10,6 +10,7 @@ ghost use Rattle.name_index.specs.Lookup.{heading_at, names_at, name_at, as_list
 ghost use Rattle.name_index.specs.Records.{fault_of};
 ghost use Rattle.file_parts.specs.FileParts.{IsOfFile};
 ghost use Rattle.name_index.specs.Opening.{Opens, NamesBreach, ArePartsOf};
+ghost use Rattle.name_index.specs.declared.limits.TheConstants.{FILE_LIMIT};
 
 use crate::full::read_layout;
 use crate::lookup::{ListedRecord, count_names, entry, heading, look_up, name, names};
@@ -42,7 +43,7 @@ impl Model for Image {
 /// Opens a full file of the package path `path`, of format version 1 or 2. It goes over the index once, looks at no
 /// byte of the data section, and keeps the bytes.
 pub fn read_full_file(alloc: Global, bytes: Vec<u8>, path: &[u8]) -> Result<Image, ReadFault>
-    requires { length bytes.items ≤ 16777216 }
+    requires { length bytes.items ≤ FILE_LIMIT }
     // The image is what stands in the bytes.
     ensures found { IfOk result (λ image. Envelope path.now bytes.items image) }
     // What stands in the bytes is found, unless memory runs out.
@@ -61,7 +62,7 @@ impl Image {
         ensures exact { ArePartsOf self.now result }
         // what readers ask for
         ensures of_file { IsOfFile result }
-        ensures short { length result.file.now ≤ 16777216 }
+        ensures short { length result.file.now ≤ FILE_LIMIT }
     {
         Parts {
             file: self.bytes.as_slice(),

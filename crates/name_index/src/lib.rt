@@ -4,8 +4,10 @@
 mod full;
 mod image;
 mod laws;
+mod limits;
 mod lookup;
 mod records;
 
 pub use image::{Image, read_full_file};
 pub use laws::{file_or_breach, listed_once};
+pub use limits::FILE_LIMIT;

@@ -6,6 +6,7 @@ ghost use Rattle.std.specs.List.{Contains};
 ghost use Rattle.std.specs.List.Sorted.{IsStrictlySortedBy};
 ghost use Rattle.std.specs.Ordering.{nat_cmp};
 ghost use Rattle.type_terms.specs.Arenas.{Extends};
+ghost use Rattle.type_terms.specs.declared.shared_nodes.TheConstants.{MAX_NODES};
 ghost use Rattle.type_terms.specs.Declarations.{Decl};
 ghost use Rattle.name_index.specs.Lookup.{IsListed};
 ghost use Rattle.session.specs.Answers.{Outcome, HasOutcome, IsUnknown};
@@ -59,7 +60,7 @@ impl<'a> Model for Objects<'a> {
 impl<'a> Objects<'a> {
     /// No name was asked for. The types of all names may have `limit` nodes together.
     pub fn new(alloc: Global, session: Session<'a>, limit: u32) -> Objects<'a>
-        requires { limit ≤ 2 ^ 28 }
+        requires { limit ≤ MAX_NODES }
         ensures file { result.file ≡ session.entry.image.now }
         ensures empty { read_by result ≡ [] }
         ensures limit { result.limit ≡ limit }

@@ -8,6 +8,7 @@ ghost use Rattle.wire_bytes.specs.Order.{rises};
 ghost use Rattle.name_index.specs.FirstBreach.{text_offset_at, entry_at, entries_at};
 ghost use Rattle.file_parts.specs.Paths.{text_of, IsInside};
 ghost use Rattle.name_index.specs.Records.{entry_of, fault_of};
+ghost use Rattle.name_index.specs.declared.limits.TheConstants.{FILE_LIMIT};
 
 use crate::records::EntryRecord;
 use file_parts::TextSpan;
@@ -21,7 +22,7 @@ pub(crate) fn read_text(
     cursor: &mut Cursor<'_>,
     strings: &[u8],
 ) -> Result<(u64, TextSpan), ByteFault>
-    requires { length strings.now ≤ 16777216 }
+    requires { length strings.now ≤ FILE_LIMIT }
     ensures inside { IfOk result (λ x. IsInside strings.now x.1) }
     ensures progress { OnOk result (length cursor.new.left < length cursor.old.left) }
     ensures exact { GivesBy (λ f. Some f) (λ x. ((x.0, text_of strings.now x.1), cursor.new)) result
@@ -59,7 +60,7 @@ fn read_entry(
     size: u32,
     last: Option<&[u8]>,
 ) -> Result<EntryRecord, ByteFault>
-    requires { length strings.now ≤ 16777216 }
+    requires { length strings.now ≤ FILE_LIMIT }
     ensures inside { IfOk result (λ e. IsInside strings.now e.name) }
     ensures progress { OnOk result (length cursor.new.left < length cursor.old.left) }
     ensures exact { GivesBy (λ f. Some f) (λ e. (entry_of strings.now e, cursor.new)) result
@@ -89,7 +90,7 @@ pub(crate) fn read_entries(
     size: u32,
     count: u64,
 ) -> Result<Vec<EntryRecord>, ReadFault>
-    requires { length strings.now ≤ 16777216 }
+    requires { length strings.now ≤ FILE_LIMIT }
     ensures inside { IfOk result (λ v. AllByRecursion (λ e. IsInside strings.now e.name) v.items) }
     ensures progress { IfOk result (λ v. length v.items + length cursor.new.left ≤ length cursor.old.left) }
     ensures exact { GivesBy fault_of (λ v. (map (entry_of strings.now) v.items, cursor.new)) result

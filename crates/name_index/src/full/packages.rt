@@ -6,6 +6,7 @@ ghost use Rattle.std.specs.List.{AllByRecursion};
 ghost use Rattle.wire_bytes.specs.Reading.{GivesBy};
 ghost use Rattle.name_index.specs.FirstBreach.{path_rule, package_at, packages_at, index_at};
 ghost use Rattle.name_index.specs.Records.{IsPackageInside, IsNumbered, name_count, package_of, fault_of};
+ghost use Rattle.name_index.specs.declared.limits.TheConstants.{FILE_LIMIT};
 
 use crate::full::entries::{read_entries, read_text};
 use crate::records::PackageRecord;
@@ -44,7 +45,7 @@ fn read_package(
     first: u32,
     last: Option<&[u8]>,
 ) -> Result<PackageRecord, ReadFault>
-    requires { length strings.now ≤ 16777216 }
+    requires { length strings.now ≤ FILE_LIMIT }
     ensures inside { IfOk result (λ p. IsPackageInside strings.now p) }
     ensures first { IfOk result (λ p. p.first ≡ first) }
     ensures progress { IfOk result (λ p. length p.entries.items + length cursor.new.left < length cursor.old.left) }
@@ -76,8 +77,8 @@ fn read_packages(
     size: u32,
     count: u64,
 ) -> Result<Vec<PackageRecord>, ReadFault>
-    requires strings { length strings.now ≤ 16777216 }
-    requires left { length cursor.old.left ≤ 16777216 }
+    requires strings { length strings.now ≤ FILE_LIMIT }
+    requires left { length cursor.old.left ≤ FILE_LIMIT }
     ensures inside { IfOk result (λ v. AllByRecursion (λ p. IsPackageInside strings.now p) v.items) }
     ensures numbered { IfOk result (λ v. IsNumbered 0 v.items) }
     ensures few { IfOk result (λ v. length v.items ≤ length cursor.old.left) }
@@ -106,8 +107,8 @@ pub(crate) fn read_index(
     strings: &[u8],
     size: u32,
 ) -> Result<Vec<PackageRecord>, ReadFault>
-    requires strings { length strings.now ≤ 16777216 }
-    requires left { length cursor.old.left ≤ 16777216 }
+    requires strings { length strings.now ≤ FILE_LIMIT }
+    requires left { length cursor.old.left ≤ FILE_LIMIT }
     ensures inside { IfOk result (λ v. AllByRecursion (λ p. IsPackageInside strings.now p) v.items) }
     ensures numbered { IfOk result (λ v. IsNumbered 0 v.items) }
     ensures few { IfOk result (λ v. length v.items ≤ length cursor.old.left) }
