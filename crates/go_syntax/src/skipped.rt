@@ -95,7 +95,8 @@ fn take(line: bool, unclosed: &mut Items<Bracket>, symbol: &Symbol) -> Result<St
     }
 }
 
-/// The tokens after a text in which brackets match. It ends before a bracket that closes none of them and, where it is one `line` of code, before a semicolon outside all of them.
+/// The tokens after a text in which brackets match. It ends before a bracket that closes none of them and, where it is
+/// one `line` of code, before a semicolon outside all of them.
 pub(crate) fn skipped(alloc: Global, line: bool, tokens: Tokens<'_>) -> Result<Tokens<'_>, Stop>
     ensures { Gives (λ x. (tt, x.now)) result (skip line [] tokens.now) }
 {
