@@ -1,12 +1,7 @@
 -- Predeclared types: their codes in export data, and their places in the table.
 use Rattle.std.specs.Prelude.{ℕ, List, [], ◌∷◌}
 use Rattle.code_tables.specs.declared.predeclared.Basic.{Basic}
-use Rattle.code_tables.specs.declared.predeclared.Basic.TheVariants.{Bool, Int, Int8, Int16, Int32, Int64, Uint, Uint8}
-use Rattle.code_tables.specs.declared.predeclared.Basic.TheVariants.{Uint16, Uint32, Uint64, Uintptr, Float32, Float64}
-use Rattle.code_tables.specs.declared.predeclared.Basic.TheVariants.{Complex64, Complex128, String, Byte, Rune, Error}
-use Rattle.code_tables.specs.declared.predeclared.Basic.TheVariants.{UntypedBool, UntypedInt, UntypedRune, UntypedFloat}
-use Rattle.code_tables.specs.declared.predeclared.Basic.TheVariants.{UntypedComplex, UntypedString, UntypedNil}
-use Rattle.code_tables.specs.declared.predeclared.Basic.TheVariants.{UnsafePointer, Comparable, Any}
+use Rattle.code_tables.specs.declared.predeclared.Basic.TheVariants.{Bool, Int, Int8, Int16, Int32, Int64, Uint, Uint8, Uint16, Uint32, Uint64, Uintptr, Float32, Float64, Complex64, Complex128, String, Byte, Rune, Error, UntypedBool, UntypedInt, UntypedRune, UntypedFloat, UntypedComplex, UntypedString, UntypedNil, UnsafePointer, Comparable, Any}
 
 -- the code
 abbrev pub basic_code : Basic → ℕ
@@ -76,7 +71,4 @@ basic_number Any = 29
 
 -- the values by their places
 abbrev pub basic_values : List Basic
-basic_values =
-    Bool ∷ Int ∷ Int8 ∷ Int16 ∷ Int32 ∷ Int64 ∷ Uint ∷ Uint8 ∷ Uint16 ∷ Uint32 ∷ Uint64 ∷ Uintptr ∷ Float32 ∷ Float64
-    ∷ Complex64 ∷ Complex128 ∷ String ∷ Byte ∷ Rune ∷ Error ∷ UntypedBool ∷ UntypedInt ∷ UntypedRune ∷ UntypedFloat
-    ∷ UntypedComplex ∷ UntypedString ∷ UntypedNil ∷ UnsafePointer ∷ Comparable ∷ Any ∷ []
+basic_values = Bool ∷ Int ∷ Int8 ∷ Int16 ∷ Int32 ∷ Int64 ∷ Uint ∷ Uint8 ∷ Uint16 ∷ Uint32 ∷ Uint64 ∷ Uintptr ∷ Float32 ∷ Float64 ∷ Complex64 ∷ Complex128 ∷ String ∷ Byte ∷ Rune ∷ Error ∷ UntypedBool ∷ UntypedInt ∷ UntypedRune ∷ UntypedFloat ∷ UntypedComplex ∷ UntypedString ∷ UntypedNil ∷ UnsafePointer ∷ Comparable ∷ Any ∷ []

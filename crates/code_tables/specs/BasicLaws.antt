@@ -1,12 +1,7 @@
 -- Each place in the table is that of one value.
 use Rattle.std.specs.Prelude.{◌≡◌, ◌<◌, Some, slice_get, refl}
 use Rattle.code_tables.specs.declared.predeclared.Basic.{Basic}
-use Rattle.code_tables.specs.declared.predeclared.Basic.TheVariants.{Bool, Int, Int8, Int16, Int32, Int64, Uint, Uint8}
-use Rattle.code_tables.specs.declared.predeclared.Basic.TheVariants.{Uint16, Uint32, Uint64, Uintptr, Float32, Float64}
-use Rattle.code_tables.specs.declared.predeclared.Basic.TheVariants.{Complex64, Complex128, String, Byte, Rune, Error}
-use Rattle.code_tables.specs.declared.predeclared.Basic.TheVariants.{UntypedBool, UntypedInt, UntypedRune, UntypedFloat}
-use Rattle.code_tables.specs.declared.predeclared.Basic.TheVariants.{UntypedComplex, UntypedString, UntypedNil}
-use Rattle.code_tables.specs.declared.predeclared.Basic.TheVariants.{UnsafePointer, Comparable, Any}
+use Rattle.code_tables.specs.declared.predeclared.Basic.TheVariants.{Bool, Int, Int8, Int16, Int32, Int64, Uint, Uint8, Uint16, Uint32, Uint64, Uintptr, Float32, Float64, Complex64, Complex128, String, Byte, Rune, Error, UntypedBool, UntypedInt, UntypedRune, UntypedFloat, UntypedComplex, UntypedString, UntypedNil, UnsafePointer, Comparable, Any}
 use Rattle.code_tables.specs.Basic.{basic_number, basic_values}
 use Rattle.code_tables.specs.Numbering.{exact_numbers, below_count}
 
