@@ -1,7 +1,13 @@
 -- Predeclared types: their codes in export data, and their places in the table.
 use Rattle.std.specs.Prelude.{ℕ, List, [], ◌∷◌}
 use Rattle.code_tables.specs.declared.predeclared.Basic.{Basic}
-use Rattle.code_tables.specs.declared.predeclared.Basic.TheVariants.{Bool, Int, Int8, Int16, Int32, Int64, Uint, Uint8, Uint16, Uint32, Uint64, Uintptr, Float32, Float64, Complex64, Complex128, String, Byte, Rune, Error, UntypedBool, UntypedInt, UntypedRune, UntypedFloat, UntypedComplex, UntypedString, UntypedNil, UnsafePointer, Comparable, Any}
+use Rattle.code_tables.specs.declared.predeclared.Basic.TheVariants.{Bool, Int, Int8, Int16, Int32, Int64, Uint}
+use Rattle.code_tables.specs.declared.predeclared.Basic.TheVariants.{Uint8, Uint16, Uint32, Uint64, Uintptr, Float32}
+use Rattle.code_tables.specs.declared.predeclared.Basic.TheVariants.{Float64, Complex64, Complex128, String, Byte}
+use Rattle.code_tables.specs.declared.predeclared.Basic.TheVariants.{Rune, Error, UntypedBool, UntypedInt}
+use Rattle.code_tables.specs.declared.predeclared.Basic.TheVariants.{UntypedRune, UntypedFloat, UntypedComplex}
+use Rattle.code_tables.specs.declared.predeclared.Basic.TheVariants.{UntypedString, UntypedNil, UnsafePointer}
+use Rattle.code_tables.specs.declared.predeclared.Basic.TheVariants.{Comparable, Any}
 
 -- the code
 abbrev pub basic_code : Basic → ℕ
@@ -71,4 +77,7 @@ basic_number Any = 29
 
 -- the values by their places
 abbrev pub basic_values : List Basic
-basic_values = Bool ∷ Int ∷ Int8 ∷ Int16 ∷ Int32 ∷ Int64 ∷ Uint ∷ Uint8 ∷ Uint16 ∷ Uint32 ∷ Uint64 ∷ Uintptr ∷ Float32 ∷ Float64 ∷ Complex64 ∷ Complex128 ∷ String ∷ Byte ∷ Rune ∷ Error ∷ UntypedBool ∷ UntypedInt ∷ UntypedRune ∷ UntypedFloat ∷ UntypedComplex ∷ UntypedString ∷ UntypedNil ∷ UnsafePointer ∷ Comparable ∷ Any ∷ []
+basic_values =
+    Bool ∷ Int ∷ Int8 ∷ Int16 ∷ Int32 ∷ Int64 ∷ Uint ∷ Uint8 ∷ Uint16 ∷ Uint32 ∷ Uint64 ∷ Uintptr ∷ Float32 ∷
+    Float64 ∷ Complex64 ∷ Complex128 ∷ String ∷ Byte ∷ Rune ∷ Error ∷ UntypedBool ∷ UntypedInt ∷ UntypedRune ∷
+    UntypedFloat ∷ UntypedComplex ∷ UntypedString ∷ UntypedNil ∷ UnsafePointer ∷ Comparable ∷ Any ∷ []

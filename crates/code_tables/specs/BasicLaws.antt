@@ -1,7 +1,13 @@
 -- Each place in the table is that of one value.
 use Rattle.std.specs.Prelude.{◌≡◌, ◌<◌, Some, slice_get, refl}
 use Rattle.code_tables.specs.declared.predeclared.Basic.{Basic}
-use Rattle.code_tables.specs.declared.predeclared.Basic.TheVariants.{Bool, Int, Int8, Int16, Int32, Int64, Uint, Uint8, Uint16, Uint32, Uint64, Uintptr, Float32, Float64, Complex64, Complex128, String, Byte, Rune, Error, UntypedBool, UntypedInt, UntypedRune, UntypedFloat, UntypedComplex, UntypedString, UntypedNil, UnsafePointer, Comparable, Any}
+use Rattle.code_tables.specs.declared.predeclared.Basic.TheVariants.{Bool, Int, Int8, Int16, Int32, Int64, Uint}
+use Rattle.code_tables.specs.declared.predeclared.Basic.TheVariants.{Uint8, Uint16, Uint32, Uint64, Uintptr, Float32}
+use Rattle.code_tables.specs.declared.predeclared.Basic.TheVariants.{Float64, Complex64, Complex128, String, Byte}
+use Rattle.code_tables.specs.declared.predeclared.Basic.TheVariants.{Rune, Error, UntypedBool, UntypedInt}
+use Rattle.code_tables.specs.declared.predeclared.Basic.TheVariants.{UntypedRune, UntypedFloat, UntypedComplex}
+use Rattle.code_tables.specs.declared.predeclared.Basic.TheVariants.{UntypedString, UntypedNil, UnsafePointer}
+use Rattle.code_tables.specs.declared.predeclared.Basic.TheVariants.{Comparable, Any}
 use Rattle.code_tables.specs.Basic.{basic_number, basic_values}
 use Rattle.code_tables.specs.Numbering.{exact_numbers, below_count}
 

@@ -1,7 +1,9 @@
 -- Tags of declarations: their codes in export data, and their places in the table.
 use Rattle.std.specs.Prelude.{ℕ, List, [], ◌∷◌}
 use Rattle.code_tables.specs.declared.declarations.DeclTag.{DeclTag}
-use Rattle.code_tables.specs.declared.declarations.DeclTag.TheVariants.{Var, Func, GenericFunc, Const, Defined, GenericDefined, Alias, GenericAlias, TypeParameter}
+use Rattle.code_tables.specs.declared.declarations.DeclTag.TheVariants.{Var, Func, GenericFunc, Const, Defined}
+use Rattle.code_tables.specs.declared.declarations.DeclTag.TheVariants.{GenericDefined, Alias, GenericAlias}
+use Rattle.code_tables.specs.declared.declarations.DeclTag.TheVariants.{TypeParameter}
 
 -- the code
 abbrev pub decl_tag_code : DeclTag → ℕ
@@ -29,4 +31,5 @@ decl_tag_number TypeParameter = 8
 
 -- the values by their places
 abbrev pub decl_tag_values : List DeclTag
-decl_tag_values = Var ∷ Func ∷ GenericFunc ∷ Const ∷ Defined ∷ GenericDefined ∷ Alias ∷ GenericAlias ∷ TypeParameter ∷ []
+decl_tag_values =
+    Var ∷ Func ∷ GenericFunc ∷ Const ∷ Defined ∷ GenericDefined ∷ Alias ∷ GenericAlias ∷ TypeParameter ∷ []

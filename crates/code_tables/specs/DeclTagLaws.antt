@@ -1,7 +1,9 @@
 -- Each place in the table is that of one value.
 use Rattle.std.specs.Prelude.{◌≡◌, ◌<◌, Some, slice_get, refl}
 use Rattle.code_tables.specs.declared.declarations.DeclTag.{DeclTag}
-use Rattle.code_tables.specs.declared.declarations.DeclTag.TheVariants.{Var, Func, GenericFunc, Const, Defined, GenericDefined, Alias, GenericAlias, TypeParameter}
+use Rattle.code_tables.specs.declared.declarations.DeclTag.TheVariants.{Var, Func, GenericFunc, Const, Defined}
+use Rattle.code_tables.specs.declared.declarations.DeclTag.TheVariants.{GenericDefined, Alias, GenericAlias}
+use Rattle.code_tables.specs.declared.declarations.DeclTag.TheVariants.{TypeParameter}
 use Rattle.code_tables.specs.DeclTag.{decl_tag_number, decl_tag_values}
 use Rattle.code_tables.specs.Numbering.{exact_numbers, below_count}
 

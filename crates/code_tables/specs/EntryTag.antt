@@ -1,7 +1,8 @@
 -- Tags of table entries: their codes in the words, and their places in the table.
 use Rattle.std.specs.Prelude.{ℕ, List, [], ◌∷◌}
 use Rattle.code_tables.specs.declared.entries.EntryTag.{EntryTag}
-use Rattle.code_tables.specs.declared.entries.EntryTag.TheVariants.{Str, Num, Wide, Neg, Nil, Cons, Name, Ask, Object, Predecl, TypeOf, DeclOf}
+use Rattle.code_tables.specs.declared.entries.EntryTag.TheVariants.{Str, Num, Wide, Neg, Nil, Cons, Name, Ask, Object}
+use Rattle.code_tables.specs.declared.entries.EntryTag.TheVariants.{Predecl, TypeOf, DeclOf}
 
 -- the code
 abbrev pub entry_tag_code : EntryTag → ℕ

@@ -1,7 +1,8 @@
 -- Each place in the table is that of one value.
 use Rattle.std.specs.Prelude.{◌≡◌, ◌<◌, Some, slice_get, refl}
 use Rattle.code_tables.specs.declared.entries.EntryTag.{EntryTag}
-use Rattle.code_tables.specs.declared.entries.EntryTag.TheVariants.{Str, Num, Wide, Neg, Nil, Cons, Name, Ask, Object, Predecl, TypeOf, DeclOf}
+use Rattle.code_tables.specs.declared.entries.EntryTag.TheVariants.{Str, Num, Wide, Neg, Nil, Cons, Name, Ask, Object}
+use Rattle.code_tables.specs.declared.entries.EntryTag.TheVariants.{Predecl, TypeOf, DeclOf}
 use Rattle.code_tables.specs.EntryTag.{entry_tag_number, entry_tag_values}
 use Rattle.code_tables.specs.Numbering.{exact_numbers, below_count}
 

@@ -1,7 +1,10 @@
 -- Keywords: their places in bytewise order, and their texts.
 use Rattle.std.specs.Prelude.{ℕ, List, [], ◌∷◌, codes, map}
 use Rattle.code_tables.specs.declared.words.Keyword.{Keyword}
-use Rattle.code_tables.specs.declared.words.Keyword.TheVariants.{Break, Case, Chan, Const, Continue, Default, Defer, Else, Fallthrough, For, Func, Go, Goto, If, Import, Interface, Map, Package, Range, Return, Select, Struct, Switch, «Type», Var}
+use Rattle.code_tables.specs.declared.words.Keyword.TheVariants.{Break, Case, Chan, Const, Continue, Default, Defer}
+use Rattle.code_tables.specs.declared.words.Keyword.TheVariants.{Else, Fallthrough, For, Func, Go, Goto, If, Import}
+use Rattle.code_tables.specs.declared.words.Keyword.TheVariants.{Interface, Map, Package, Range, Return, Select}
+use Rattle.code_tables.specs.declared.words.Keyword.TheVariants.{Struct, Switch, «Type», Var}
 
 -- the code
 abbrev pub keyword_code : Keyword → ℕ
@@ -61,7 +64,9 @@ keyword_number Var = 24
 
 -- the values by their places
 abbrev pub keyword_values : List Keyword
-keyword_values = Break ∷ Case ∷ Chan ∷ Const ∷ Continue ∷ Default ∷ Defer ∷ Else ∷ Fallthrough ∷ For ∷ Func ∷ Go ∷ Goto ∷ If ∷ Import ∷ Interface ∷ Map ∷ Package ∷ Range ∷ Return ∷ Select ∷ Struct ∷ Switch ∷ «Type» ∷ Var ∷ []
+keyword_values =
+    Break ∷ Case ∷ Chan ∷ Const ∷ Continue ∷ Default ∷ Defer ∷ Else ∷ Fallthrough ∷ For ∷ Func ∷ Go ∷ Goto ∷ If ∷
+    Import ∷ Interface ∷ Map ∷ Package ∷ Range ∷ Return ∷ Select ∷ Struct ∷ Switch ∷ «Type» ∷ Var ∷ []
 
 -- the text
 abbrev pub keyword_text : Keyword → List ℕ

@@ -1,7 +1,10 @@
 -- Each place in the table is that of one value.
 use Rattle.std.specs.Prelude.{◌≡◌, ◌<◌, Some, slice_get, refl}
 use Rattle.code_tables.specs.declared.words.Keyword.{Keyword}
-use Rattle.code_tables.specs.declared.words.Keyword.TheVariants.{Break, Case, Chan, Const, Continue, Default, Defer, Else, Fallthrough, For, Func, Go, Goto, If, Import, Interface, Map, Package, Range, Return, Select, Struct, Switch, «Type», Var}
+use Rattle.code_tables.specs.declared.words.Keyword.TheVariants.{Break, Case, Chan, Const, Continue, Default, Defer}
+use Rattle.code_tables.specs.declared.words.Keyword.TheVariants.{Else, Fallthrough, For, Func, Go, Goto, If, Import}
+use Rattle.code_tables.specs.declared.words.Keyword.TheVariants.{Interface, Map, Package, Range, Return, Select}
+use Rattle.code_tables.specs.declared.words.Keyword.TheVariants.{Struct, Switch, «Type», Var}
 use Rattle.code_tables.specs.Keyword.{keyword_number, keyword_values}
 use Rattle.code_tables.specs.Numbering.{exact_numbers, below_count}
 

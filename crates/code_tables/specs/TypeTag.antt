@@ -1,7 +1,9 @@
 -- Tags of descriptors: their codes in export data, and their places in the table.
 use Rattle.std.specs.Prelude.{ℕ, List, [], ◌∷◌}
 use Rattle.code_tables.specs.declared.descriptors.TypeTag.{TypeTag}
-use Rattle.code_tables.specs.declared.descriptors.TypeTag.TheVariants.{Defined, Pointer, Slice, Array, Chan, Map, Signature, Struct, Interface, TypeParameter, Instance, Union, Alias}
+use Rattle.code_tables.specs.declared.descriptors.TypeTag.TheVariants.{Defined, Pointer, Slice, Array, Chan, Map}
+use Rattle.code_tables.specs.declared.descriptors.TypeTag.TheVariants.{Signature, Struct, Interface, TypeParameter}
+use Rattle.code_tables.specs.declared.descriptors.TypeTag.TheVariants.{Instance, Union, Alias}
 
 -- the code
 abbrev pub type_tag_code : TypeTag → ℕ
@@ -37,4 +39,6 @@ type_tag_number Alias = 12
 
 -- the values by their places
 abbrev pub type_tag_values : List TypeTag
-type_tag_values = Defined ∷ Pointer ∷ Slice ∷ Array ∷ Chan ∷ Map ∷ Signature ∷ Struct ∷ Interface ∷ TypeParameter ∷ Instance ∷ Union ∷ Alias ∷ []
+type_tag_values =
+    Defined ∷ Pointer ∷ Slice ∷ Array ∷ Chan ∷ Map ∷ Signature ∷ Struct ∷ Interface ∷ TypeParameter ∷ Instance ∷
+    Union ∷ Alias ∷ []

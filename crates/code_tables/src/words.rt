@@ -69,7 +69,8 @@ impl Coded for Keyword {
 /// The places of the keywords in their bytewise order, from 0.
 pub fn keywords() -> CodeTable<Keyword, 25>
     ensures codes { (keyword : Keyword) → slice_index result (keyword_number keyword) ≡ keyword_code keyword }
-    ensures places { (keyword : Keyword) → slice_get keyword_texts (keyword_code keyword) ≡ Some (keyword_text keyword) }
+    ensures places { (keyword : Keyword)
+        → slice_get keyword_texts (keyword_code keyword) ≡ Some (keyword_text keyword) }
     ensures order { IsTrue (rises keyword_texts) }
 {
     CodeTable::new([

@@ -109,7 +109,8 @@ fn path_at<'a>(
 ) -> Option<&'a [u8]>
     requires inside { AllByRecursion (λ s. IsInside strings.now s) paths.now }
     requires rising { Rise (texts_of strings.now paths.now) }
-    ensures found { IfSome result (λ path. IsPathAt strings.now own.now (texts_of strings.now paths.now) offset path.now) }
+    ensures found { IfSome result (λ path.
+        IsPathAt strings.now own.now (texts_of strings.now paths.now) offset path.now) }
     ensures none { IfNone result ((path : List ℕ)
         → IsPathAt strings.now own.now (texts_of strings.now paths.now) offset path → ⊥) }
     ensures exact { option_copied result ≡ path_in strings.now own.now (texts_of strings.now paths.now) offset }

@@ -35,7 +35,8 @@ pub fn find_titled<T: Titled>(strings: &[u8], records: &[T], wanted: &[u8]) -> O
     requires inside { AllByRecursion (λ r. IsInside strings.now (T.title r)) records.now }
     requires rising { Rise (map (λ r. text_of strings.now (T.title r)) records.now) }
     ensures within { IfSome result (λ i. i < length records.now) }
-    ensures found { IfSome result (λ i. slice_get (map (λ r. text_of strings.now (T.title r)) records.now) i ≡ Some wanted.now) }
+    ensures found { IfSome result (λ i.
+        slice_get (map (λ r. text_of strings.now (T.title r)) records.now) i ≡ Some wanted.now) }
     ensures none { IfNone result ((i : ℕ)
         → slice_get (map (λ r. text_of strings.now (T.title r)) records.now) i ≡ Some wanted.now → ⊥) }
 {

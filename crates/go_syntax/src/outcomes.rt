@@ -10,8 +10,8 @@ pub fn one_tree()
         → f ≡ g }
 {}
 
-/// Tokens that are a file have no fault: none of them is unexpected, and a path is too long only in a file that has such
-/// a path.
+/// Tokens that are a file have no fault: none of them is unexpected, and a path is too long only in a file that has
+/// such a path.
 pub fn no_fault_of_a_file()
     ensures unexpected { (tokens : List Symbol) (f : SourceFile) (left : ℕ) → IsFile tokens f
         → IsUnexpected tokens left → ⊥ }

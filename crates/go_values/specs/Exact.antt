@@ -46,7 +46,8 @@ exact_const _ _ h = cc
 
 pub exact_file : (left right : FileInfo) → file_eq.ghosts.eq left right ≡ true → left ≡ right
 exact_file left right h =
-    let parts = and_parts (pointwise nat_eq left.name right.name) (nat_eq left.size right.size && pointwise nat_eq left.lines right.lines) h in
+    let parts = and_parts (pointwise nat_eq left.name right.name)
+    (nat_eq left.size right.size && pointwise nat_eq left.lines right.lines) h in
     let numbers = and_parts (nat_eq left.size right.size) (pointwise nat_eq left.lines right.lines) parts.1 in
     let name = exact_bytes left.name right.name parts.0 in
     let size = eqb-true left.size right.size numbers.0 in

@@ -120,7 +120,8 @@ fn read_file<'s>(
 ) -> Result<(u64, &'s [u8]), ByteFault>
     ensures found { IfOk result (λ x. BeginsWith cursor.old.left x.0 cursor.new.left × Text strings.now x.0 x.1.now
         × (x.1.now ≢ before.now)) }
-    ensures exact { GivesBy Some (λ x. ((x.0, x.1.now), cursor.new)) result (file_at strings.now before.now cursor.old) }
+    ensures exact { GivesBy Some (λ x. ((x.0, x.1.now), cursor.new)) result
+        (file_at strings.now before.now cursor.old) }
 {
     let at = cursor.place() as u64;
     let offset = cursor.uvarint()?;

@@ -54,7 +54,8 @@ fn write_place(
     line: u32,
     column: u32,
 ) -> Result<(), AllocError>
-    ensures written { OnOk result (Wrote (section_of strings.new) prev.old prev.new w.old w.new (place_at file.now line column)) }
+    ensures written { OnOk result
+        (Wrote (section_of strings.new) prev.old prev.new w.old w.new (place_at file.now line column)) }
     ensures strings { OnOk result (strings.new ≡ with_file strings.old prev.old.place (place_at file.now line column)) }
     ensures refused { OnErr result (prev.new ≡ prev.old) }
     ensures kept_strings { OnErr result ((strings.new ≡ strings.old)
@@ -105,7 +106,8 @@ fn write_file(
     line: u32,
     column: u32,
 ) -> Result<(), AllocError>
-    ensures written { OnOk result (NamesFile (section_of strings.new) prev.old.place prev.new file.now line column w.old w.new) }
+    ensures written { OnOk result
+        (NamesFile (section_of strings.new) prev.old.place prev.new file.now line column w.old w.new) }
     ensures strings { (strings.new ≡ strings.old) ⊎ (strings.new ≡ with_text strings.old file.now) }
     ensures added { OnOk result (strings.new ≡ with_text strings.old file.now) }
     ensures refused { OnErr result (prev.new ≡ prev.old) }

@@ -109,7 +109,8 @@ impl Arena {
         requires generic { MeetsBase (retype (tree self.old.nodes) (node_shape node)) }
         ensures node { IfOk result (λ id. IsNode self.new.nodes id node) }
         ensures within { IfOk result (λ id. id < length self.new.nodes) }
-        ensures denotes { IfOk result (λ id. tree self.new.nodes id ≡ tree_of (retype (tree self.old.nodes) (node_shape node))) }
+        ensures denotes { IfOk result (λ id.
+            tree self.new.nodes id ≡ tree_of (retype (tree self.old.nodes) (node_shape node))) }
         // an equal node is there
         ensures present { (id : ℕ) → IsNode self.old.nodes id node → (result ≡ Ok id) × (self.new ≡ self.old) }
         ensures new { IsNew self.old.nodes node
