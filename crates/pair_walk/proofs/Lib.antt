@@ -1,0 +1,4 @@
+pub mod SameLemmas
+pub mod DifferLemmas
+pub mod CountLemmas
+pub mod RoomLemmas
