@@ -17,5 +17,6 @@ pub mod Runs
 pub mod Shorter
 pub mod Sources
 pub mod Taken
+pub mod TokenTexts
 pub mod Turns
 pub mod Whole

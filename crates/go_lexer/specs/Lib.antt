@@ -13,3 +13,4 @@ pub mod Grammar
 pub mod Lexing
 pub mod Source
 pub mod TokenGrammar
+pub mod TokenTexts

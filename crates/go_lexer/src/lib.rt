@@ -12,9 +12,11 @@ mod marks;
 mod numbers;
 mod pieces;
 mod source;
+mod source_tokens;
 mod token_kinds;
 mod words;
 
 pub use lexing::{SOURCE_LIMIT, one_reading, tokens};
 pub use numbers::number_literals;
+pub use source_tokens::{SourceTokens, each_token, lex};
 pub use token_kinds::{LexFault, Token, TokenKind};

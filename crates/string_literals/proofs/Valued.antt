@@ -10,6 +10,11 @@ use Rattle.std.proofs.lemmas.Str.{encodes-append, encode_ascii}
 use Rattle.go_lexer.specs.Characters.{line_feed, double_quote, back_quote, backslash}
 use Rattle.go_lexer.specs.Escapes.{is_simple}
 use Rattle.go_lexer.specs.Grammar.{AreDigits, Each, IsEscape as IsLexed, simple, hexadecimal as lexed_hexadecimal, octal as lexed_octal, short_code_point as lexed_short, long_code_point as lexed_long, IsStringText, nothing as lexed_nothing, character, escaped as lexed_escaped}
+use Rattle.go_lexer.specs.NumberGrammar.{IsNumber, integer, float, imaginary_digits, imaginary_integer, imaginary_float}
+use Rattle.go_lexer.specs.TokenTexts.{Spells, identifier, keyword, number, rune, string, raw_string, mark, inserted, IsTokenOf, bytes_at}
+use Rattle.go_lexer.specs.declared.token_kinds.Token.{Token}
+use Rattle.go_lexer.specs.declared.token_kinds.TokenKind.{TokenKind}
+use Rattle.go_lexer.specs.declared.token_kinds.TokenKind.TheVariants.{Text}
 use Rattle.string_literals.specs.Values.{carriage_return}
 use Rattle.string_literals.specs.Grammar.{IsEscape, alert, backspace, form_feed, new_line, return, horizontal_tab, vertical_tab, a_backslash, quote, octal, hexadecimal, short_code_point, long_code_point, IsText, nothing, byte, escaped, IsRawText, raw_nothing, raw_return, raw_byte, raw, interpreted, literal_of, IsValued}
 
@@ -122,3 +127,30 @@ raw_text_valued (c ∷ cs) h =
 
 pub raw_valued : (inside : List ℕ) → Each (λ c. not (c == back_quote)) inside → IsValued (literal_of back_quote inside)
 raw_valued inside h = let r = raw_text_valued inside h in (r.0, raw (encode_utf8_all inside) r.0 r.1)
+
+-- tokens
+closed : (q : ℕ) (inside : List ℕ) → q < 128 → encode_utf8_all (q ∷ (inside ++ (q ∷ []))) ≡ literal_of q inside
+closed q inside low =
+    let one : encode_utf8 q ≡ q ∷ [] = encode_ascii q low in
+    ap (λ l. l ++ encode_utf8_all (inside ++ (q ∷ []))) one
+    ∙ ap (λ l. q ∷ l) (encodes-append inside (q ∷ []) ∙ ap (λ l. encode_utf8_all inside ++ (l ++ [])) one)
+
+no_number : (kind : TokenKind) (text : List ℕ) → IsNumber kind text → kind ≡ Text → ⊥
+no_number kind text (integer t h) e = cc
+no_number kind text (float t h) e = cc
+no_number kind text (imaginary_digits t h) e = cc
+no_number kind text (imaginary_integer t h) e = cc
+no_number kind text (imaginary_float t h) e = cc
+
+spelled_valued : (kind : TokenKind) (text : List ℕ) → Spells kind text → kind ≡ Text → IsValued (encode_utf8_all text)
+spelled_valued kind text (identifier name h k) e = cc
+spelled_valued kind text (keyword k) e = cc
+spelled_valued kind text (number d literal h) e = absurd (no_number d literal h e)
+spelled_valued kind text (rune inside h) e = cc
+spelled_valued kind text (string inside h) e = subst IsValued (sym (closed double_quote inside (omega arith))) (interpreted_valued inside h)
+spelled_valued kind text (raw_string inside h) e = subst IsValued (sym (closed back_quote inside (omega arith))) (raw_valued inside h)
+spelled_valued kind text (mark t h) e = cc
+spelled_valued kind text inserted e = cc
+
+pub token_valued : (source : List ℕ) (t : Token) → IsTokenOf source t → t.kind ≡ Text → IsValued (bytes_at source t)
+token_valued source t h e = subst IsValued h.utf8 (spelled_valued t.kind h.characters h.spells e)

@@ -2,6 +2,9 @@ ghost use Rattle.std.specs.Prelude.{◌≡◌, ◌≤◌, ◌==◌, not, ℕ, Li
 ghost use Rattle.string_literals.specs.Values.{piece, text_after, raw_text, value_of};
 ghost use Rattle.string_literals.specs.Grammar.{HasValue, IsValued, literal_of};
 ghost use Rattle.go_lexer.specs.Grammar.{IsStringText, Each};
+ghost use Rattle.go_lexer.specs.TokenTexts.{IsTokenOf, bytes_at};
+ghost use Rattle.go_lexer.specs.declared.token_kinds.Token.{Token};
+ghost use Rattle.go_lexer.specs.declared.token_kinds.TokenKind.TheVariants.{Text};
 ghost use Rattle.go_lexer.specs.Characters.{double_quote, back_quote};
 
 use crate::escapes::{Meaning, Piece, append, escape};
@@ -82,8 +85,10 @@ pub fn one_value()
     ensures { (literal value other : List ℕ) → HasValue literal value → HasValue literal other → value ≡ other }
 {}
 
-/// Each string of the lexical grammar has a value.
+/// Each string of the lexical grammar has a value, and so has the text of each token of a source that is a string
+/// literal.
 pub fn each_has_value()
+    ensures token { (source : List ℕ) (t : Token) → IsTokenOf source t → t.kind ≡ Text → IsValued (bytes_at source t) }
     ensures interpreted { (inside : List ℕ) → IsStringText inside → IsValued (literal_of double_quote inside) }
     ensures raw { (inside : List ℕ) → Each (λ c. not (c == back_quote)) inside
         → IsValued (literal_of back_quote inside) }
