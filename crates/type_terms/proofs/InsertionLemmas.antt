@@ -127,6 +127,7 @@ inserted nodes after place node stored arena falls generic keys stands equal = b
           is = stays ∙ sym (append-nil nodes);
           present = λ n is. (arena.apart place n node old is, stays);
           fresh = λ new. absurd (new there.0 there.1);
+          last = λ number from below. absurd (omega (arith, ap length stays));
           denotes = ap (λ l. tree l place) stays ∙ tree_unfolds nodes place node old (arena.falls place node old);
         }
     by false e =
@@ -142,6 +143,7 @@ inserted nodes after place node stored arena falls generic keys stands equal = b
           is = grows;
           present = λ n is. absurd (new n is);
           fresh = λ _. (at, grows);
+          last = λ number from below. omega (arith, at, ap length grows, length-append nodes (node ∷ []));
           denotes = ap (λ l. tree l place) grows ∙ ap (λ k. tree (nodes ++ node ∷ []) k) at ∙ tree_added nodes node;
         }
 

@@ -1,5 +1,5 @@
 -- Arenas of nodes.
-use Rattle.std.specs.Prelude.{◌≡◌, ◌≢◌, ◌<◌, ℕ, List, [], ◌∷◌, ◌++◌, Some, slice_get, length}
+use Rattle.std.specs.Prelude.{◌≡◌, ◌≢◌, ◌<◌, ◌≤◌, ℕ, List, [], ◌∷◌, ◌++◌, Some, slice_get, length}
 use Rattle.std.specs.List.{AllByRecursion}
 use Rattle.type_terms.specs.declared.descriptors.Node.{Node}
 use Rattle.type_terms.specs.Trees.{level_of, tree_of}
@@ -44,4 +44,5 @@ pub record Inserted (nodes after : List Node) (place : ℕ) (node : Node) : Type
   pub is : after ≡ nodes ++ more
   pub present : (n : ℕ) → IsNode nodes n node → (place ≡ n) × (after ≡ nodes)
   pub fresh : IsNew nodes node → (place ≡ length nodes) × (after ≡ nodes ++ node ∷ [])
+  pub last : (number : ℕ) → length nodes ≤ number → number < length after → number ≡ place
   pub denotes : tree after place ≡ tree_of (retype (tree nodes) (node_shape node))

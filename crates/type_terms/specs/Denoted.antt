@@ -22,7 +22,7 @@ after_append : (below : List Tree) (xs ys : List Node)
 after_append below [] ys = refl
 after_append below (x ∷ xs) ys = after_append (below ++ node_tree below x ∷ []) xs ys
 
-after_length : (below : List Tree) (xs : List Node) → length (trees_after below xs) ≡ length below + length xs
+pub after_length : (below : List Tree) (xs : List Node) → length (trees_after below xs) ≡ length below + length xs
 after_length below [] = omega arith
 after_length below (x ∷ xs) = omega
     (arith, after_length (below ++ node_tree below x ∷ []) xs, length-append below (node_tree below x ∷ []))
@@ -130,3 +130,20 @@ module _ (nodes : List Node) (arena : IsArena nodes) where
 
   pub tree_told : (m n : ℕ) → m < length nodes → n < length nodes → tree nodes m ≡ tree nodes n → m ≡ n
   tree_told m n here there e = told_below (suc m) m n (omega arith) here there e
+
+  -- a number that denotes what a node would denote is that node's
+  pub node_told_by_tree : (n : ℕ) (node : Node) → n < length nodes → AllBelow (length nodes) (children node)
+      → tree nodes n ≡ tree_of (retype (tree nodes) (node_shape node)) → IsNode nodes n node
+  node_told_by_tree n node here below e =
+      let left = node_there nodes n here in
+      let levels : retype (tree nodes) (node_shape left.0) ≡ retype (tree nodes) (node_shape node) =
+      level_told _ _ (sym (unfolds n left.0 left.1) ∙ e)
+      in
+      let tells : (x y : ℕ) → x < n → y < length nodes → tree nodes x ≡ tree nodes y → x ≡ y =
+      λ x y less within same. tree_told x y (omega arith) within same
+      in
+      let shapes : node_shape left.0 ≡ node_shape node =
+      retype_told (tree nodes) (λ c. c < n) (λ c. c < length nodes) tells _ _ _ (node_shape left.0) (node_shape node)
+      (arena.falls n left.0 left.1) below levels
+      in
+      left.1 ∙ ap Some (node_told left.0 node shapes)

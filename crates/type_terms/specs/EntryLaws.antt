@@ -19,7 +19,8 @@ use Rattle.type_terms.specs.Arenas.{Contents, AllBelow, Extends}
 use Rattle.type_terms.specs.Declarations.{ReceiverOf, Form, var_of, function_of, constant_of, defined_of, renamed_of}
 use Rattle.type_terms.specs.Declarations.{type_parameter_of, Decl, receiver_map, receiver_types, form_map, form_types}
 use Rattle.type_terms.specs.Declarations.{decl_form, decl_nodes}
-use Rattle.type_terms.specs.Environments.{Entry, declared, decl_of, IsProperDecl, entry_types, AddsOnly}
+use Rattle.type_terms.specs.Environments.{Entry, declared, decl_of, IsProperDecl, entry_types}
+use Rattle.type_terms.specs.Additions.{AddsOnly, Outgrows}
 use Rattle.type_terms.specs.Packages.{Named, package_decl, package_entry, package_names, HoldsParameters, DeclsStand}
 use Rattle.type_terms.specs.Packages.{PackageStands, over_entries}
 use Rattle.type_terms.specs.Replaced.{all_left, all_right, map_agrees}
@@ -204,3 +205,12 @@ over_adds path decls nodes base q old new other adds =
     ≡ over_entries path decls nodes base q = ap (λ b. cond b (package_entry nodes decls q.name) (base q))
     (sym other) in
     subst (λ e. AddsOnly (entry_types e) old new) entry adds
+
+pub over_outgrown : (path : Text) (decls : List Named) (nodes : List Node) (base : QName
+    → Option Entry) (q : QName) (arena : Contents) → pointwise nat_eq q.path path ≡ false
+    → Outgrows arena (entry_types (base q)) → Outgrows arena (entry_types (over_entries path decls nodes base q))
+over_outgrown path decls nodes base q arena other outgrown =
+    let entry : base q
+    ≡ over_entries path decls nodes base q = ap (λ b. cond b (package_entry nodes decls q.name) (base q))
+    (sym other) in
+    subst (λ e. Outgrows arena (entry_types e)) entry outgrown

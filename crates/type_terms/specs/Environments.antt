@@ -1,5 +1,5 @@
 -- What environments give for names, and the rules that the declarations they give keep.
-use Rattle.std.specs.Prelude.{◌≡◌, ℕ, ◌<◌, ◌≤◌, ◌^◌, ◌⊎◌, List, [], Bool, true, IsTrue, Option, Some, None, Result, Ok}
+use Rattle.std.specs.Prelude.{◌≡◌, ◌<◌, ◌≤◌, ◌^◌, ◌⊎◌, List, [], Bool, true, IsTrue, Option, Some, None, Result, Ok}
 use Rattle.std.specs.Prelude.{Err, length}
 use Rattle.std.specs.List.{All, Contains}
 use Rattle.go_values.specs.declared.positions.Pos.{Pos}
@@ -88,14 +88,6 @@ abbrev pub entry_types : Option Entry → List Tree
 entry_types (Some (declared decl)) = form_types decl
 entry_types (Some (damaged fault read)) = read
 entry_types None = []
-
-abbrev pub StandsIn : List Tree → Tree → Type 0
-StandsIn whole type = (outer : Tree) × Contains whole outer × Within outer type
-
--- what the nodes denote that came after the old ones stands in these types
-abbrev pub AddsOnly : List Tree → Contents → Contents → Type 0
-AddsOnly whole old new = (number : ℕ) → length old.nodes ≤ number → number < length new.nodes
-    → StandsIn whole (tree new.nodes number)
 
 -- What an answer for the name q says of the entry, of the arena and of the flag at exit. Each answer comes only so, and
 -- they exclude each other; OutOfMemory is free.

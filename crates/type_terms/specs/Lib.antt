@@ -20,3 +20,5 @@ pub mod EntryLaws
 pub mod Extensions
 pub mod Exported
 pub mod ReferenceLaws
+pub mod Additions
+pub mod AdditionLaws

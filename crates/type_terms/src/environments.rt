@@ -1,10 +1,11 @@
-ghost use Rattle.std.specs.Prelude.{◌≡◌, ℕ, List, ◌++◌, ◌⊎◌, Bool, Option, None, Some, option_map};
+ghost use Rattle.std.specs.Prelude.{◌≡◌, ℕ, List, ◌++◌, ◌⊎◌, Bool, Option, None, Some, IsErrOf, option_map};
 ghost use Rattle.std.specs.List.{Contains};
 ghost use Rattle.go_values.specs.declared.qualified.QName.{QName as Name};
 ghost use Rattle.type_terms.specs.declared.descriptors.Node.{Node};
 ghost use Rattle.type_terms.specs.Arenas.{Extends};
-ghost use Rattle.type_terms.specs.Environments.{Entry, declared, IsProperDecl, Answers, AddsOnly, AsksOnly};
+ghost use Rattle.type_terms.specs.Environments.{Entry, declared, IsProperDecl, Answers, AsksOnly};
 ghost use Rattle.type_terms.specs.Environments.{entry_types};
+ghost use Rattle.type_terms.specs.Additions.{AddsOnly, Outgrows};
 
 use crate::declarations::DeclNode;
 use crate::shared_nodes::Arena;
@@ -46,8 +47,8 @@ pub trait Env {
     /// Whether its table had no room, where it keeps a table.
     ghost full: { Self → Option Bool };
 
-    /// The declaration of a name, as nodes of the arena. Which trees are too many for `Nodes` is said where the nodes
-    /// are made.
+    /// The declaration of a name, as nodes of the arena. `Nodes` comes only where the nodes at entry and what the entry
+    /// opens are more distinct trees than the arena's limit.
     fn declare(&mut self, q: &QName, arena: &mut Arena) -> Result<DeclNode, EnvError>
         requires stands { stands self.old arena.old.nodes }
         ensures answer { Answers (entries self.old arena.old.nodes q.now) q.now arena.new (full self.new) result }
@@ -57,6 +58,8 @@ pub trait Env {
         ensures asked { AsksOnly (asked self.old) q.now (asked self.new) }
         ensures extends { Extends arena.old arena.new }
         ensures adds { AddsOnly (entry_types (entries self.old arena.old.nodes q.now)) arena.old arena.new }
+        ensures outgrown { IsErrOf result EnvError.Nodes
+            → Outgrows arena.old (entry_types (entries self.old arena.old.nodes q.now)) }
         ensures stands_after { stands self.new arena.new.nodes };
 
     /// The name of the package with the path, if there is one. Takes no memory.

@@ -19,9 +19,10 @@ pub use descriptors::Node;
 pub use environments::{Env, EnvError, NoDeps};
 pub use exported::is_exported;
 pub use laws::{
-    equal_trees_have_equal_numbers, equality_of_types_is_tested, nodes_keep_their_trees,
-    parts_are_smaller, reach_is_idempotent, reach_is_least, reach_is_monotone,
-    references_follow_the_parts,
+    a_full_arena_is_outgrown, additions_join, equal_trees_have_equal_numbers,
+    equality_of_types_is_tested, more_types_outgrow, nodes_keep_their_trees, parts_are_smaller,
+    reach_is_idempotent, reach_is_least, reach_is_monotone, references_follow_the_parts,
+    want_of_nodes_joins,
 };
 pub use lists::{Fields, MethodList, Methods, Nodes, Params, Terms};
 pub use literals::{Dir, Field, IMethod, Origin, ParamNode, Sig, Term};

@@ -1,5 +1,6 @@
 ghost use Rattle.std.specs.Prelude.{◌≡◌, ◌↔◌, true, false, ◌≢◌, ◌<◌, ◌≤◌, ◌^◌, ◌++◌, ◌∷◌, [], ℕ, Ok, Err, Some, IfOk};
 ghost use Rattle.std.specs.Prelude.{OnErr, OnOk, IsErrOf, IsTrue, IfSome, IfNone, length};
+ghost use Rattle.type_terms.specs.Additions.{AddsOnly, Outgrows};
 ghost use Rattle.type_terms.specs.Arenas.{IsNode, IsNew, AllBelow, IsArena, Extends, Inserted};
 ghost use Rattle.type_terms.specs.Denotation.{tree};
 ghost use Rattle.type_terms.specs.NodeShapes.{node_shape, children};
@@ -121,6 +122,9 @@ impl Arena {
             → result ≡ Err ArenaError.Full }
         ensures refused { OnErr result (self.new ≡ self.old) }
         ensures extends { Extends self.old self.new }
+        ensures adds { AddsOnly (tree_of (retype (tree self.old.nodes) (node_shape node)) ∷ []) self.old self.new }
+        ensures outgrown { IsErrOf result ArenaError.Full
+            → Outgrows self.old (tree_of (retype (tree self.old.nodes) (node_shape node)) ∷ []) }
         ensures arena { IsArena self.new.nodes }
     {
         if !self.takes(&node) {

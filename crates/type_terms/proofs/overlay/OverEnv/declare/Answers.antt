@@ -1,5 +1,5 @@
 use Rattle.std.proofs.Common.{sym, ◌∙◌}
-use Rattle.type_terms.specs.EntryLaws.{package_grown, over_grown, over_adds}
+use Rattle.type_terms.specs.EntryLaws.{package_grown, over_grown, over_adds, over_outgrown}
 use Rattle.type_terms.proofs.overlay.OverEnv.declare.Goals as goal
 
 pub returns-else-eq-clause-entries : goal.returns-else-eq-clause-entries
@@ -9,6 +9,10 @@ returns-else-eq-clause-entries g c =
 pub returns-else-eq-clause-adds : goal.returns-else-eq-clause-adds
 returns-else-eq-clause-adds g c =
     over_adds c.args.self.now.package.now.path c.args.self.now.package.now.decls.items c.args.arena.now.nodes (g.E.Env.entries c.args.self.now.base.now c.args.arena.now.nodes) c.args.q.now c.args.arena.now c.declare.new.arena (sym c.eq.ensures ∙ c.if-eq.false) c.declare.ensures.adds
+
+pub returns-else-eq-clause-outgrown : goal.returns-else-eq-clause-outgrown
+returns-else-eq-clause-outgrown g c = λ full.
+    over_outgrown c.args.self.now.package.now.path c.args.self.now.package.now.decls.items c.args.arena.now.nodes (g.E.Env.entries c.args.self.now.base.now c.args.arena.now.nodes) c.args.q.now c.args.arena.now (sym c.eq.ensures ∙ c.if-eq.false) (c.declare.ensures.outgrown full)
 
 pub returns-else-eq-clause-stands_after : goal.returns-else-eq-clause-stands_after
 returns-else-eq-clause-stands_after g c =
