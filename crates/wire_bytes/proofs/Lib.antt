@@ -11,3 +11,6 @@ pub mod SectionLemmas
 pub mod WholeLemmas
 pub mod WholeSpellings
 pub mod SpelledSizes
+pub mod LocalLemmas
+pub mod NumbersLocal
+pub mod WholeFaults

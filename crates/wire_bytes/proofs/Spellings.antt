@@ -20,21 +20,21 @@ IsBytes-rest b bytes fits i = fits (suc i)
 
 -- ---- a number of any size
 
-abbrev front : ℕ × List ℕ → Front
+abbrev pub front : ℕ × List ℕ → Front
 front p = Ok p
 
-front_is : (x y : ℕ × List ℕ) → front x ≡ front y → x ≡ y
+pub front_is : (x y : ℕ × List ℕ) → front x ≡ front y → x ≡ y
 front_is x y h = cc
 
 -- what stands behind a byte with its top bit set
-behind_ok : (b n : ℕ) (r : Front) (rest : List ℕ) → behind b r ≡ Ok (n, rest) → (h : ℕ) × (r ≡ Ok (suc h, rest)) × (n ≡ b - 128 + 128 * suc h)
+pub behind_ok : (b n : ℕ) (r : Front) (rest : List ℕ) → behind b r ≡ Ok (n, rest) → (h : ℕ) × (r ≡ Ok (suc h, rest)) × (n ≡ b - 128 + 128 * suc h)
 behind_ok b n (Ok (zero, bytes)) rest e = absurd cc
 behind_ok b n (Ok (suc h, bytes)) rest e =
     let same : (b - 128 + 128 * suc h, bytes) ≡ (n, rest) = front_is _ _ e in
     (h, ap (λ (p : ℕ × List ℕ). front (suc h, p.1)) same, sym (ap (λ (p : ℕ × List ℕ). p.0) same))
 behind_ok b n (Err d) rest e = absurd cc
 
-behind_cut : (b : ℕ) (r : Front) → behind b r ≡ Err Cut → r ≡ Err Cut
+pub behind_cut : (b : ℕ) (r : Front) → behind b r ≡ Err Cut → r ≡ Err Cut
 behind_cut b (Ok (zero, bytes)) e = absurd cc
 behind_cut b (Ok (suc h, bytes)) e = absurd cc
 behind_cut b (Err Cut) e = refl
@@ -107,7 +107,7 @@ groups_large (b ∷ c ∷ bs) n (suc k) groups some len =
 
 -- ---- a number of 64 bits
 
-of_64_bits_ok : (len n : ℕ) (r : Front) (rest : List ℕ) → of_64_bits len r ≡ Ok (n, rest) → (r ≡ Ok (n, rest)) × (n < 2 ^ 64)
+pub of_64_bits_ok : (len n : ℕ) (r : Front) (rest : List ℕ) → of_64_bits len r ≡ Ok (n, rest) → (r ≡ Ok (n, rest)) × (n < 2 ^ 64)
 of_64_bits_ok len n (Ok (v, bytes)) rest e =
     elim (chosen (ltb v (2 ^ 64)) (Ok (v, bytes)) (Err Wrong) (Ok (n, rest)) e) [
       | inl small ↦ (small.1, let same = ap (λ (p : ℕ × List ℕ). p.0) (front_is (v, bytes) (n, rest) small.1) in omega (arith, ltb-true v (2 ^ 64) small.0))
@@ -120,7 +120,7 @@ of_64_bits_ok len n (Err Cut) rest e =
     ]
 of_64_bits_ok len n (Err Wrong) rest e = absurd cc
 
-of_64_bits_cut : (len : ℕ) (r : Front) → of_64_bits len r ≡ Err Cut → (r ≡ Err Cut) × (len < 10)
+pub of_64_bits_cut : (len : ℕ) (r : Front) → of_64_bits len r ≡ Err Cut → (r ≡ Err Cut) × (len < 10)
 of_64_bits_cut len (Ok (v, bytes)) e =
     elim (chosen (ltb v (2 ^ 64)) (Ok (v, bytes)) (Err Wrong) (Err Cut) e) [
       | inl small ↦ absurd (let no = small.1 in cc)

@@ -84,6 +84,16 @@ text_lies strings offset len rest read begins enough =
     let width : length strings - length rest + len - (length strings - length rest) ≡ len = omega arith in
     rw (number, le-ltb (length rest) len enough, width, there) refl
 
+pub text_place : (strings : List ℕ) (offset len : ℕ) (rest : List ℕ) → BeginsWith (take (length strings - offset) (drop offset strings)) len rest
+    → BeginsWith (drop offset strings) (length strings - length rest + len - (length strings - length rest)) (drop (length strings - length rest) strings)
+text_place strings offset len rest begins =
+    let split : drop offset strings ≡ begins.0 ++ rest = sym (rest_from offset strings) ∙ begins.2 in
+    let whole : strings ≡ (take offset strings ++ begins.0) ++ rest
+    = sym (take-append-drop offset strings) ∙ ap (λ (t : List ℕ). take offset strings ++ t) split ∙ sym (append_assoc (take offset strings) begins.0 rest) in
+    let there : drop (length strings - length rest) strings ≡ rest = end_of (take offset strings ++ begins.0) rest strings whole in
+    let width : length strings - length rest + len - (length strings - length rest) ≡ len = omega arith in
+    rw (width, there) (begins.0, begins.1, split)
+
 pub text_short : (strings : List ℕ) (offset len : ℕ) (rest : List ℕ) → Ok (len, rest) ≡ uvarint_in (take (length strings - offset) (drop offset strings)) → length rest < len → text_in strings offset ≡ None
 unfolding text_in
 text_short strings offset len rest read short =

@@ -1,5 +1,5 @@
 -- Whole constants: what is read is spelled, and what is spelled is read.
-use Rattle.std.proofs.Common.{◌≡◌, ◌≢◌, ℕ, zero, suc, ◌+◌, ◌-◌, ◌*◌, ◌/◌, ◌%◌, ◌^◌, ◌<◌, ◌≤◌, Bool, true, false, cond, ltb, List, [], ◌∷◌, ◌++◌, length, take, drop, get_or, Option, Some, None, Result, Ok, Err, refl, sym, ap, subst, ◌∙◌, arith, inl, inr, lit≤}
+use Rattle.std.proofs.Common.{◌≡◌, ◌≢◌, ℕ, zero, suc, ◌+◌, ◌-◌, ◌*◌, ◌/◌, ◌%◌, ◌^◌, ◌<◌, ◌≤◌, Bool, true, false, cond, ltb, List, [], ◌∷◌, ◌++◌, length, take, drop, get_or, Option, Some, None, Result, Ok, Err, refl, sym, ap, subst, ◌∙◌, arith, inl, inr, ◌⊎◌, lit≤}
 use Rattle.std.specs.Prelude.{ℤ, pos, negsuc, neg_ℤ, unsigned_abs, nat_lt, nat_le, ◌&&◌, ◌==◌, fold, slice_index, IfOk, IfSome, is_some}
 use Rattle.std.specs.Option.{ok_or}
 use Rattle.std.proofs.lemmas.Bool.{ltb-true, lt-ltb, le-ltb, leb-true, eqb-true, eqb-false, le-leb, lt-leb, cases_lt}
@@ -79,7 +79,7 @@ size_some (b ∷ bytes) some = omega (arith, grows (0 * 256 + b) bytes)
 
 -- ---- the ways in which a size is judged
 
-abbrev three : Bool → Bool → Bool → ByteFault → ByteFault → ℤ → Result ℤ ByteFault
+abbrev pub three : Bool → Bool → Bool → ByteFault → ByteFault → ℤ → Result ℤ ByteFault
 three a b c f g v = demand a f >>= λ _. demand b f >>= λ _. demand c g >>= λ _. Ok v
 
 pub judged_zero : (signed : Bool) (max at prefix : ℕ) (size : List ℕ) → slice_index size 0 ≡ 0 → judged signed max at prefix size ≡ Err (faults.Number at)
@@ -117,6 +117,19 @@ pub judged_fits : (signed : Bool) (max at prefix : ℕ) (size : List ℕ) (v : �
 judged_fits signed max at prefix size v some value long inside =
     judged_long signed max at prefix size v some value long ∙ ap (λ (c : Bool). three true true c (faults.Number at) (beyond max at prefix) v) inside
 
+three_fails : (a b c : Bool) (f g : ByteFault) (v : ℤ) (e : ByteFault) → three a b c f g v ≡ Err e → (e ≡ f) ⊎ (e ≡ g)
+three_fails false b c f g v e same = inl cc
+three_fails true false c f g v e same = inl cc
+three_fails true true false f g v e same = inr cc
+three_fails true true true f g v e same = absurd cc
+
+-- the faults that a size may have
+pub judged_ways : (signed : Bool) (max at prefix : ℕ) (size : List ℕ) (e : ByteFault) → judged signed max at prefix size ≡ Err e → (e ≡ faults.Number at) ⊎ (e ≡ beyond max at prefix)
+unfolding judged
+judged_ways signed max at prefix size e same =
+    let v = value_behind signed prefix (size_in size) in
+    three_fails (nat_lt 0 (slice_index size 0)) (nat_le (small_limit signed max) (code_of signed v)) (in_range signed max v) (faults.Number at) (beyond max at prefix) v e same
+
 -- a size that passed
 pub record Passed (signed : Bool) (max prefix : ℕ) (size : List ℕ) (v : ℤ) : Type 0 where
   pub some : 0 < slice_index size 0
@@ -150,7 +163,7 @@ abs-with_sign true n = abs-neg n
 abs-with_sign false n = refl
 
 -- the prefix of the value behind a prefix
-prefix_again : (signed negative : Bool) (prefix n : ℕ) → negative ≡ (signed && (prefix % 2 == 1)) → prefix < 256 → 0 < n → prefix_of signed (with_sign negative n) (length_behind signed prefix) ≡ prefix
+pub prefix_again : (signed negative : Bool) (prefix n : ℕ) → negative ≡ (signed && (prefix % 2 == 1)) → prefix < 256 → 0 < n → prefix_of signed (with_sign negative n) (length_behind signed prefix) ≡ prefix
 prefix_again false negative prefix n is small some = omega arith
 prefix_again true true prefix zero is small some = absurd (omega arith)
 prefix_again true true prefix (suc n) is small some = let odd : prefix % 2 ≡ 1 = eqb-true (prefix % 2) 1 (sym is) in omega arith
@@ -253,7 +266,7 @@ bytes_left n s after taken e =
       | inr fine ↦ let same = done_is (take n s.left, onward s (drop n s.left)) (taken, after) fine.1 in sym (take-append-drop n s.left) ∙ ap (λ (p : List ℕ × Spot). p.0 ++ p.1.left) same
     ]
 
-bound_least : (signed : Bool) (max : ℕ) → IsGreatestLength max → cond signed 128 256 ≤ bound_of signed max
+pub bound_least : (signed : Bool) (max : ℕ) → IsGreatestLength max → cond signed 128 256 ≤ bound_of signed max
 bound_least true max (inl e) = rw e (lit≤ tt)
 bound_least false max (inl e) = rw e (lit≤ tt)
 bound_least true max (inr (inl e)) = rw e (lit≤ tt)

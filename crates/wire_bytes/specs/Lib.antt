@@ -7,3 +7,5 @@ pub mod Begins
 pub mod Varint
 pub mod Section
 pub mod Whole
+pub mod WholeFault
+pub mod Local

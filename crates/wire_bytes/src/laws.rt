@@ -1,7 +1,11 @@
 //! Laws about spellings, each the contract of a function that does nothing.
 
-ghost use Rattle.std.specs.Prelude.{◌≡◌, ℕ, ◌<◌, ◌^◌, List, [], ◌++◌};
-ghost use Rattle.wire_bytes.specs.Uvarint.{Uvarint, BeginsWith, IsCutShort};
+ghost use Rattle.std.specs.Prelude.{◌≡◌, ℕ, ◌<◌, ◌^◌, List, [], ◌++◌, Bool};
+ghost use Rattle.wire_bytes.specs.Local.{IsLocal};
+ghost use Rattle.wire_bytes.specs.Reading.{byte_at, bytes_at};
+ghost use Rattle.wire_bytes.specs.Varint.{varint_at, flag_at};
+ghost use Rattle.wire_bytes.specs.Whole.{whole_at};
+ghost use Rattle.wire_bytes.specs.Uvarint.{Uvarint, BeginsWith, IsCutShort, uvarint_at};
 ghost use Rattle.wire_bytes.specs.Text.{Text};
 
 /// Each number of 64 bits has exactly one spelling, and none begins another, so what was written is read again,
@@ -17,4 +21,16 @@ pub fn one_number_spelling()
 /// At most one text stands at an offset.
 pub fn one_text()
     ensures { (strings : List ℕ) (offset : ℕ) (a b : List ℕ) → Text strings offset a → Text strings offset b → a ≡ b }
+{}
+
+/// Reading a byte, some bytes, a number, a signed one, a flag or a constant depends only on the bytes up to where it
+/// ends or its fault is met. What was read stays, whatever follows it, and so does each fault but `Ended`, which comes
+/// only where more bytes give another answer. All others stand at a byte that was left.
+pub fn numbers_are_local()
+    ensures byte { IsLocal byte_at }
+    ensures bytes { (n : ℕ) → IsLocal (bytes_at n) }
+    ensures number { IsLocal uvarint_at }
+    ensures signed { IsLocal varint_at }
+    ensures flag { IsLocal flag_at }
+    ensures whole { (signed : Bool) (max : ℕ) → IsLocal (whole_at signed max) }
 {}

@@ -16,7 +16,7 @@ mod writer;
 pub use codes::{one_flag_spelling, one_varint_spelling, one_whole_spelling, texts_stand};
 pub use cursor::Cursor;
 pub use fault::{ByteFault, ReadFault};
-pub use laws::{one_number_spelling, one_text};
+pub use laws::{numbers_are_local, one_number_spelling, one_text};
 pub use spelling::uvarint_of;
 pub use strings::Strings;
 pub use text::{Span, text_at, text_span};

@@ -2,7 +2,9 @@
 
 ghost use Rattle.std.specs.Prelude.{◌≡◌, ◌≤◌, List, ℕ, length, IfSome, IfNone, slice_range, option_map};
 ghost use Rattle.std.specs.Option.{option_copied};
+ghost use Rattle.std.specs.Prelude.{◌-◌, drop};
 ghost use Rattle.wire_bytes.specs.Text.{Text, text_in};
+ghost use Rattle.wire_bytes.specs.Uvarint.{BeginsWith};
 
 use crate::number::leading_uvarint;
 
@@ -23,11 +25,13 @@ pub fn text_at(strings: &[u8], offset: u64) -> Option<&[u8]>
     lent_at(strings, offset)
 }
 
-/// Where in the section the text at an offset stands.
+/// Where in the section the text at an offset stands: behind the spelling of its length, which is at the offset.
 #[tactic(auto, unfolding(crate::specs::Text::text_in))]
 pub fn text_span(strings: &[u8], offset: u64) -> Option<Span>
     ensures order { IfSome result (λ s. s.start ≤ s.end) }
     ensures inside { IfSome result (λ s. s.end ≤ length strings.now) }
+    ensures place { IfSome result (λ s. BeginsWith (drop offset strings.now) (s.end - s.start)
+        (drop s.start strings.now)) }
     ensures exact { option_map (λ s. slice_range strings.now s.start s.end) result ≡ text_in strings.now offset }
 {
     if offset > strings.len() as u64 {

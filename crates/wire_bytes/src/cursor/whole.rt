@@ -1,9 +1,10 @@
 //! Whole constants.
 
-ghost use Rattle.std.specs.Prelude.{◌≡◌, List, ℕ, ℤ, IfOk, IfErr, IsTrue};
+ghost use Rattle.std.specs.Prelude.{◌≡◌, List, ℕ, ℤ, IfOk, IfErr, IsErrOf, IsTrue};
 ghost use Rattle.wire_bytes.specs.Begins.{Begins};
 ghost use Rattle.wire_bytes.specs.Reading.{Reads};
 ghost use Rattle.wire_bytes.specs.Whole.{IsGreatestLength, Whole, whole_at};
+ghost use Rattle.wire_bytes.specs.WholeFault.{IsWholeFault};
 
 use crate::cursor::Cursor;
 use crate::fault::ByteFault;
@@ -23,6 +24,8 @@ impl<'a> Cursor<'a> {
         ensures found { IfOk result (λ v. Begins (Whole signed max) self.old.left v self.new.left) }
         ensures none { IfErr result (λ f. (v : ℤ) (rest : List ℕ) → Begins (Whole signed max) self.old.left v rest
             → ⊥) }
+        ensures fault { IfErr result (IsWholeFault signed max self.old) }
+        ensures only { (f : ByteFault) → IsWholeFault signed max self.old f → IsErrOf result f }
         ensures exact { Reads (λ v. v) result self.old self.new (whole_at signed max self.old) }
     {
         self.next_whole(signed, max)

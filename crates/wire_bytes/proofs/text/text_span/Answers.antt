@@ -1,5 +1,5 @@
 use Rattle.std.proofs.Common.{sym, arith}
-use Rattle.wire_bytes.proofs.TextLemmas.{text_past, text_lies, text_short, no_number}
+use Rattle.wire_bytes.proofs.TextLemmas.{text_past, text_lies, text_place, text_short, no_number}
 use Rattle.wire_bytes.proofs.text.text_span.Goals as goal
 
 pub returns-then-offset-strings-clause-exact : goal.returns-then-offset-strings-clause-exact
@@ -13,3 +13,6 @@ returns-clause-exact c = sym (text_lies c.args.strings.now c.args.offset c.in-Ok
 
 pub returns-in_default-clause-exact : goal.returns-in_default-clause-exact
 returns-in_default-clause-exact c = sym (no_number c.args.strings.now c.args.offset c.in_default.field-0 c.in_default.ensures.exact)
+
+pub returns-clause-place : goal.returns-clause-place
+returns-clause-place c = text_place c.args.strings.now c.args.offset c.in-Ok.len c.in-Ok.rest.now c.in-Ok.ensures.found
