@@ -3,3 +3,4 @@ pub mod PlaceLemmas
 pub mod WroteLemmas
 pub mod PositionLemmas
 pub mod EveryPlace
+pub mod LocalLemmas

@@ -9,7 +9,7 @@ mod previous;
 mod reading;
 mod writing;
 
-pub use laws::one_position_spelling;
+pub use laws::{one_position_spelling, positions_are_local};
 pub use previous::PrevPos;
 pub use reading::read_full;
 pub use writing::write_full;
