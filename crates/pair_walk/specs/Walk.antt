@@ -1,5 +1,6 @@
--- Comparing pairs, and all the pairs to which they lead, each once. A pair is first made ready (settle), and two that are
--- ready may be the same (same). A ready pair leads to the pairs of its parts, or fails a demand, or has a fault (steps).
+-- Comparing pairs, and all the pairs to which they lead, each once. A pair is first made ready (settle), and two that
+-- are ready may be the same (same). A ready pair leads to the pairs of its parts, or fails a demand, or has a fault
+-- (steps).
 use Rattle.std.specs.Prelude.{ℕ, zero, suc, List, [], ◌∷◌, ◌++◌, map, Bool, cond, Result, Ok, Err, Option, Some, None}
 use Rattle.std.specs.List.{list_any}
 

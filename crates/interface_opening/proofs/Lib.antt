@@ -1,0 +1,4 @@
+pub mod OpeningLemmas
+pub mod OpenedLaws
+pub mod RoomLemmas
+pub mod MeetingLemmas

@@ -1,0 +1,5 @@
+pub mod Elements
+pub mod Opening
+pub mod Having
+pub mod Terms
+pub mod Meeting

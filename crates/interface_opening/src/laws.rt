@@ -1,0 +1,67 @@
+//! What comes of opening interfaces, whatever stands for types.
+
+ghost use Rattle.std.specs.Prelude.{◌≡◌, ◌≢◌, ◌≤◌, ℕ, suc, List, [], length, Bool, true, Result, Ok, Err};
+ghost use Rattle.std.specs.List.{All, AllPairs, list_any};
+ghost use Rattle.interface_opening.specs.Elements.{Term, Opened};
+ghost use Rattle.interface_opening.specs.Opening.{Item, opening, none_opened};
+ghost use Rattle.interface_opening.specs.Having.{HasAll};
+ghost use Rattle.interface_opening.specs.Terms.{meet_lists};
+ghost use Rattle.interface_opening.specs.Meeting.{IsMeeting};
+
+/// What stands for types, names of defined types and methods, and what is asked of them.
+pub trait Openable {
+    ghost use Rattle.std.specs.Prelude.{◌≡◌, Bool, true, Result};
+    ghost use Rattle.interface_opening.specs.Elements.{Term, Looks};
+
+    ghost Ty: { Type 0 };
+
+    ghost Name: { Type 0 };
+
+    ghost Method: { Type 0 };
+
+    ghost Fault: { Type 0 };
+
+    ghost looks: { Looks Ty Name Method Fault };
+
+    /// Whether two terms are the same.
+    ghost same_term: { Term Ty → Term Ty → Bool };
+
+    /// Whether the first term is covered by the second.
+    ghost covered: { Term Ty → Term Ty → Result Bool Fault };
+
+    /// Equal types are the same.
+    ghost reflexive: { (a : Ty) → looks.same a a ≡ true };
+
+    /// Equal terms are the same.
+    ghost same_reflexive: { (a : Term Ty) → same_term a a ≡ true };
+}
+
+/// Each distinct interface is opened once, and no more than may be.
+pub fn each_opened_once<O: Openable>()
+    ensures once { (n : ℕ) (items : List (Item O.Ty O.Name)) (s : Opened O.Ty O.Method)
+        → opening O.looks n items none_opened ≡ Ok s → AllPairs (λ a b. a ≢ b) s.types }
+    ensures within { (n : ℕ) (items : List (Item O.Ty O.Name)) (s : Opened O.Ty O.Method)
+        → opening O.looks n items none_opened ≡ Ok s → length s.types ≤ n }
+{}
+
+/// The methods are those of the interfaces that were opened, own ones in order, and the flag is set exactly where one
+/// of them has it.
+pub fn of_the_opened<O: Openable>()
+    ensures { (n : ℕ) (items : List (Item O.Ty O.Name)) (s : Opened O.Ty O.Method)
+        → opening O.looks n items none_opened ≡ Ok s → HasAll O.looks s }
+{}
+
+/// What doesn't come to too many interfaces is the same where more may be opened.
+pub fn more_room<O: Openable>()
+    ensures { (n : ℕ) (items : List (Item O.Ty O.Name)) (s : Opened O.Ty O.Method)
+        → opening O.looks n items s ≢ Err O.looks.too_many
+        → opening O.looks (suc n) items s ≡ opening O.looks n items s }
+{}
+
+/// The terms that two elements leave are those that one of each have in common, and all of those.
+pub fn terms_in_common<O: Openable>()
+    ensures only { (xs ys zs : List (Term O.Ty)) → meet_lists O.same_term O.covered xs ys [] ≡ Ok zs
+        → All (IsMeeting O.covered xs ys) zs }
+    ensures all { (xs ys zs : List (Term O.Ty)) → meet_lists O.same_term O.covered xs ys [] ≡ Ok zs
+        → (z : Term O.Ty) → IsMeeting O.covered xs ys z → list_any (O.same_term z) zs ≡ true }
+{}
