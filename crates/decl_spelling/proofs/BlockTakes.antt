@@ -34,7 +34,7 @@ pub offset_is : (src : Sections) (a : Ahead) (to : ℕ) → a.spot.end ≡ src.b
 offset_is src a to end short = omega arith
 
 module _ (src : Sections) (strings : IsBytes src.strings) (bytes : IsBytes src.body) where
-  finish_takes : (read : ReadsBlock) → ReadsSoundly src read → (offset holder to : ℕ) (done known : Table) → to ≡ free_to offset holder done → offset < holder → holder ≤ length src.body → Fine src done → at done offset ≡ None
+  pub finish_takes : (read : ReadsBlock) → ReadsSoundly src read → (offset holder to : ℕ) (done known : Table) → to ≡ free_to offset holder done → offset < holder → holder ≤ length src.body → Fine src done → at done offset ≡ None
       → (r : Result (Flat × Ahead) Stopped) → flat_at src (start (window src offset to)) ≡ r → finish src read offset r done ≡ Ok known
       → Added src holder done known × (f : Finished) × (at known offset ≡ Some f) × (f.end ≤ holder)
   finish_takes read reads offset holder to done known free before within fine none (Err s) e h =

@@ -99,7 +99,7 @@ went_frugally a asks b went = omega (arith, went.frugal, ap (λ (ms : List Menti
 abbrev pub numbers_asked : List Ask → List ℕ
 numbers_asked asks = map (λ k. k.0) asks
 
-numbers_of : (ms : List Mention) → map (λ m. m.value) ms ≡ numbers_asked (map ask_of ms)
+pub numbers_of : (ms : List Mention) → map (λ m. m.value) ms ≡ numbers_asked (map ask_of ms)
 numbers_of [] = refl
 numbers_of (m ∷ ms) = ap (λ (xs : List ℕ). m.value ∷ xs) (numbers_of ms)
 

@@ -31,3 +31,8 @@ pub mod Examples
 pub mod LeadTakes
 pub mod LeadAgain
 pub mod Bounds
+pub mod LeavingBounds
+pub mod LeavingReach
+pub mod LeavingDecls
+pub mod OneFileTypes
+pub mod OneFileReading

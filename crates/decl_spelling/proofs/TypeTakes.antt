@@ -42,7 +42,7 @@ abbrev pub ReadsSoundly : Sections → ReadsBlock → Type 0
 ReadsSoundly src read = (offset holder : ℕ) (done known : Table) → offset < holder → holder ≤ length src.body → Fine src done → at done offset ≡ None → read offset holder done ≡ Ok known
     → Added src holder done known × (f : Finished) × (at known offset ≡ Some f) × (f.end ≤ holder)
 
-named_ok : (m : Mention) (r : Result Table ByteFault) (known : Table) → named_at m r ≡ Ok known → r ≡ Ok known
+pub named_ok : (m : Mention) (r : Result Table ByteFault) (known : Table) → named_at m r ≡ Ok known → r ≡ Ok known
 named_ok m (Ok done) known e = e
 named_ok m (Err (faults.Ended place)) known e = absurd (cc)
 named_ok m (Err f) known e = absurd (cc)
@@ -77,7 +77,7 @@ module _ (src : Sections) (read : ReadsBlock) (reads : ReadsSoundly src read) (h
             found_known m done known le before fine (at done (m.value - 32)) refl asked.2
       ]
 
-  resolve_known : (m : Mention) (done known : Table) → Fine src done → resolve src read holder m done ≡ Ok known → Added src holder done known × IsAnswered src known holder m
+  pub resolve_known : (m : Mention) (done known : Table) → Fine src done → resolve src read holder m done ≡ Ok known → Added src holder done known × IsAnswered src known holder m
   resolve_known m done known fine e =
       let typed = bind_ok (with_type src read holder m done) (λ mid. demand (meets m.asked (type_named src.version mid m.value)) (unmet m m.asked) >>= λ met. Ok mid) known e in
       let mid = typed.0 in

@@ -8,6 +8,8 @@ pub mod KnownTypes
 pub mod Asks
 pub mod Constants
 pub mod Declarations
+pub mod Leaving
 pub mod Grammar
 pub mod Spelling
+pub mod OneFile
 pub mod Heads

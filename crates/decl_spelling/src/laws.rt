@@ -1,12 +1,17 @@
 //! Laws of the spelling of declarations, each the contract of a function that does nothing.
 
-ghost use Rattle.std.specs.Prelude.{◌≡◌, ℕ, ◌⊎◌, List, Ok};
-ghost use Rattle.std.specs.List.{Contains};
+ghost use Rattle.std.specs.Prelude.{◌≡◌, ◌≢◌, ◌≤◌, ℕ, ◌⊎◌, List, Ok, length};
+ghost use Rattle.std.specs.List.{AllPairs, Contains};
 ghost use Rattle.wire_bytes.specs.declared.fault.ByteFault.{ByteFault};
+ghost use Rattle.type_terms.specs.Trees.{Tree};
 ghost use Rattle.type_terms.specs.Declarations.{Decl};
+ghost use Rattle.type_terms.specs.Arenas.{Contents, Extends};
+ghost use Rattle.type_terms.specs.Additions.{StandsIn, AddsOnly, Outgrows};
 ghost use Rattle.decl_spelling.specs.Sections.{Sections, Basics, HoldsBytes};
 ghost use Rattle.decl_spelling.specs.Declarations.{decl_at, FirstFault};
+ghost use Rattle.decl_spelling.specs.Leaving.{types_read};
 ghost use Rattle.decl_spelling.specs.Spelling.{Block, Sound, SpellsDecl};
+ghost use Rattle.decl_spelling.specs.OneFile.{NamesType, IsOfFile, type_count, HoldsTypesOf};
 
 /// At an offset a declaration is spelled, or the bytes there have a first fault; it is one declaration at the most and
 /// one first fault at the most, and never both.
@@ -43,4 +48,25 @@ pub fn more_blocks()
     ensures { (src : Sections) (basics : Basics) (offset : ℕ) (decl : Decl) (spells : SpellsDecl src basics offset decl)
         (all : List Block) → Sound src all → ((block : Block) → Contains spells.blocks block → Contains all block)
         → (more : SpellsDecl src basics offset decl) × (more.blocks ≡ all) }
+{}
+
+/// The types of one file are no more than its typeOffs may be: each type that is read of it has a number, and no number
+/// has two.
+pub fn types_of_one_file()
+    ensures read { (src : Sections) (basics : Basics) → HoldsBytes src → (offset : ℕ) (type : Tree)
+        → StandsIn (types_read src basics offset) type → IsOfFile src type }
+    ensures one { (src : Sections) → HoldsBytes src → (number : ℕ) (a b : Tree) → NamesType src number a
+        → NamesType src number b → a ≡ b }
+    ensures few { (src : Sections) → HoldsBytes src → (types : List Tree) → AllPairs (λ left right. left ≢ right) types
+        → ((type : Tree) → Contains types type → IsOfFile src type) → length types ≤ type_count src }
+{}
+
+/// An arena that has the types of one file alone has them alone as more of it is read; and where it may have a node for
+/// each typeOff it always has room.
+pub fn one_file_has_room()
+    ensures stays { (src : Sections) (basics : Basics) → HoldsBytes src → (offset : ℕ) (old new : Contents)
+        → HoldsTypesOf src old → Extends old new → AddsOnly (types_read src basics offset) old new
+        → HoldsTypesOf src new }
+    ensures room { (src : Sections) (basics : Basics) → HoldsBytes src → (offset : ℕ) (arena : Contents)
+        → HoldsTypesOf src arena → type_count src ≤ arena.limit → Outgrows arena (types_read src basics offset) → ⊥ }
 {}

@@ -5,5 +5,8 @@
 mod laws;
 mod mention;
 
-pub use laws::{declaration_or_fault, more_blocks, one_type, reading_decides};
+pub use laws::{
+    declaration_or_fault, more_blocks, one_file_has_room, one_type, reading_decides,
+    types_of_one_file,
+};
 pub use mention::{Demand, FIRST_DESCRIPTOR, Mention};
