@@ -9,14 +9,15 @@ use Rattle.go_values.specs.declared.positions.Pos.{Pos}
 use Rattle.type_terms.specs.declared.descriptors.Node.{Node}
 use Rattle.type_terms.specs.declared.declarations.DeclNode.{DeclNode}
 use Rattle.type_terms.specs.declared.declarations.DeclNode.TheVariants.{Var}
-use Rattle.type_terms.specs.declared.declarations.Package.{Package}
+use Rattle.environments.specs.declared.packages.Package.{Package}
 use Rattle.type_terms.specs.Trees.{Text, Tree, predeclared, level_of}
 use Rattle.type_terms.specs.Parts.{Within, itself, inside, parts}
 use Rattle.type_terms.specs.Arenas.{AllBelow}
 use Rattle.type_terms.specs.Denotation.{tree}
 use Rattle.type_terms.specs.Declarations.{var_of, decl_nodes}
-use Rattle.type_terms.specs.Environments.{decl_of, IsProper, IsProperLevel, IsProperDecl}
-use Rattle.type_terms.specs.Packages.{IsImports, IsSourceFile, package_decl, HoldsParameters, DeclsStand, PackageStands}
+use Rattle.type_terms.specs.DeclarationRules.{IsProper, IsProperLevel, IsProperDecl}
+use Rattle.type_terms.specs.Declarations.{decl_of}
+use Rattle.environments.specs.Packages.{IsImports, IsSourceFile, package_decl, HoldsParameters, DeclsStand, PackageStands}
 
 basic_level : (basic : Basic) (type part : Tree) → type ≡ predeclared basic → Within type part → IsProperLevel (level_of part)
 basic_level basic _ _ e (itself type) = subst (λ t. IsProperLevel (level_of t)) (sym e) tt

@@ -3,13 +3,14 @@
 ghost use Rattle.std.specs.Prelude.{◌≡◌, ◌<◌, IfOk, length};
 ghost use Rattle.type_terms.specs.Denotation.{tree};
 ghost use Rattle.type_terms.specs.Trees.{predeclared};
-ghost use Rattle.type_terms.specs.Packages.{PackageStands};
+ghost use Rattle.environments.specs.Packages.{PackageStands};
 
 use code_tables::Basic;
+use environments::{Env, EnvError, NoDeps, Over, Package};
 use go_values::{Bytes, Pos, QName};
 use std::alloc::{AllocError, Global};
 use std::test::Fail;
-use type_terms::{Arena, DeclNode, Env, EnvError, NoDeps, Node, NodeId, Over, Package};
+use type_terms::{Arena, DeclNode, Node, NodeId};
 
 /// The package `p`, which declares one variable. Its name is empty.
 fn package_of(alloc: Global, basic: Basic, ty: NodeId, arena: &Arena) -> Result<Package, AllocError>

@@ -1,7 +1,8 @@
 //! The arena of shared nodes, and names that are exported.
 use code_tables::Basic;
 use std::test::Fail;
-use type_terms::{Arena, ArenaError, Node, is_exported};
+use environments::is_exported;
+use type_terms::{Arena, ArenaError, Node};
 
 #[test]
 fn one_node_fills_an_arena_of_one(rt: HostRuntime) -> Result<(), Fail> {

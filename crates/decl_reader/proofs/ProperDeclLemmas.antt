@@ -17,7 +17,8 @@ use Rattle.type_terms.specs.Trees.{Text, Tree, predeclared, named, parameter, al
 use Rattle.type_terms.specs.TreeLevels.{level_of-tree_of}
 use Rattle.type_terms.specs.Parts.{Within, itself, inside, parts}
 use Rattle.type_terms.specs.Declarations.{ReceiverOf, var_of, function_of, constant_of, defined_of, renamed_of, type_parameter_of, receiver_map, form_map, form_types, Decl}
-use Rattle.type_terms.specs.Environments.{HasLast, IsProperLevel, IsProper, IsTypeParameter, IsInterface, IsUnderlying, MayHaveMethods, IsProperForm, IsProperDecl, decl_of}
+use Rattle.type_terms.specs.DeclarationRules.{HasLast, IsProperLevel, IsProper, IsTypeParameter, IsInterface, IsUnderlying, MayHaveMethods, IsProperForm, IsProperDecl}
+use Rattle.type_terms.specs.Declarations.{decl_of}
 use Rattle.decl_spelling.specs.Sections.{Sections, Basics}
 use Rattle.decl_spelling.specs.Descriptors.{Param}
 use Rattle.decl_spelling.specs.Descent.{is_parameter, is_interface, is_underlying}

@@ -10,7 +10,7 @@ use Rattle.file_parts.specs.declared.parts.Parts.{Parts}
 use Rattle.type_terms.specs.declared.descriptors.Node.{Node}
 use Rattle.type_terms.specs.declared.declarations.DeclNode.{DeclNode}
 use Rattle.type_terms.specs.Declarations.{Decl, constant_of}
-use Rattle.type_terms.specs.Environments.{decl_of}
+use Rattle.type_terms.specs.Declarations.{decl_of}
 use Rattle.decl_spelling.specs.declared.mention.Mention.{Mention}
 use Rattle.decl_spelling.specs.Sections.{Sections, Basics, HoldsBytes, window}
 use Rattle.decl_spelling.specs.Reading.{Ahead, Stopped, start}

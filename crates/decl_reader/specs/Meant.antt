@@ -11,7 +11,7 @@ use Rattle.type_terms.specs.ShapeLaws.{Agree, type_agrees, sig_agrees, retype_ag
 use Rattle.type_terms.specs.Replaced.{all_left, all_right, map_agrees}
 use Rattle.type_terms.specs.Trees.{Text, Tree, Level}
 use Rattle.type_terms.specs.Declarations.{ReceiverOf, Form, Decl, receiver_map, receiver_types, form_map, form_types}
-use Rattle.type_terms.specs.EntryLaws.{form_agrees}
+use Rattle.type_terms.specs.DeclarationLaws.{form_agrees}
 use Rattle.decl_spelling.specs.Descriptors.{Flat}
 use Rattle.decl_spelling.specs.Tables.{Table, type_named}
 use Rattle.decl_spelling.specs.Descent.{is_generic}

@@ -9,7 +9,7 @@ use Rattle.wire_bytes.specs.Reading.{place, ◌>>=◌}
 use Rattle.type_terms.specs.declared.descriptors.Node.{Node}
 use Rattle.type_terms.specs.declared.declarations.DeclNode.{DeclNode}
 use Rattle.type_terms.specs.Declarations.{Decl}
-use Rattle.type_terms.specs.Environments.{decl_of}
+use Rattle.type_terms.specs.Declarations.{decl_of}
 use Rattle.decl_spelling.specs.Sections.{Sections, Basics}
 use Rattle.decl_spelling.specs.Reading.{Ahead, list_at}
 use Rattle.decl_spelling.specs.declared.mention.Mention.{Mention}

@@ -4,7 +4,8 @@ ghost use Rattle.std.specs.Prelude.{◌≡◌, ◌+◌, ◌<◌, ◌≤◌, [], 
 ghost use Rattle.file_parts.specs.FileParts.{IsOfFile};
 ghost use Rattle.type_terms.specs.Arenas.{AllBelow, Extends};
 ghost use Rattle.type_terms.specs.Declarations.{decl_nodes};
-ghost use Rattle.type_terms.specs.Environments.{IsProperDecl, decl_of};
+ghost use Rattle.type_terms.specs.DeclarationRules.{IsProperDecl};
+ghost use Rattle.type_terms.specs.Declarations.{decl_of};
 ghost use Rattle.decl_spelling.specs.Sections.{HoldsBytes, window};
 ghost use Rattle.decl_spelling.specs.Reading.{start};
 ghost use Rattle.decl_spelling.specs.Declarations.{head_at, resolved, after_head, decl_at, FirstFault};

@@ -8,7 +8,7 @@ use Rattle.wire_bytes.specs.declared.fault.ByteFault.{ByteFault}
 use Rattle.wire_bytes.specs.Reading.{place, ◌>>=◌}
 use Rattle.wire_bytes.proofs.Spellings.{IsBytes}
 use Rattle.type_terms.specs.Replaced.{all_left, all_right, all_append}
-use Rattle.type_terms.specs.EntryLaws.{form_agrees}
+use Rattle.type_terms.specs.DeclarationLaws.{form_agrees}
 use Rattle.type_terms.specs.Trees.{Text}
 use Rattle.type_terms.specs.Declarations.{ReceiverOf, var_of, function_of, constant_of, defined_of, renamed_of, type_parameter_of, receiver_types, form_types, form_map}
 use Rattle.decl_spelling.specs.declared.mention.Demand.TheVariants.{Any, Parameter, Underlying}

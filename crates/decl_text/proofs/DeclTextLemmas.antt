@@ -11,7 +11,7 @@ use Rattle.type_terms.specs.declared.declarations.DeclNode.{DeclNode}
 use Rattle.type_terms.specs.Trees.{Text}
 use Rattle.type_terms.specs.Declarations.{decl_form, decl_nodes}
 use Rattle.type_terms.specs.Denotation.{tree}
-use Rattle.type_terms.specs.Environments.{decl_of}
+use Rattle.type_terms.specs.Declarations.{decl_of}
 use Rattle.decl_text.specs.Numbers.{Numbers, reference, number_all}
 use Rattle.decl_text.specs.NodeNumbers.{NodeNumbers, numbered_at, node_reference}
 use Rattle.decl_text.specs.DeclText.{first_line, number_line, number_lines, method_line, form_methods, numbers_of, described, text_with, decl_text}

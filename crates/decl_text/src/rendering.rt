@@ -1,7 +1,7 @@
 ghost use Rattle.std.specs.Prelude.{◌≡◌, ◌++◌, OnOk, IfOk, length};
 ghost use Rattle.type_terms.specs.Arenas.{AllBelow};
 ghost use Rattle.type_terms.specs.Declarations.{decl_nodes};
-ghost use Rattle.type_terms.specs.Environments.{decl_of};
+ghost use Rattle.type_terms.specs.Declarations.{decl_of};
 ghost use Rattle.decl_text.specs.DeclText.{number_line, number_lines, decl_text};
 
 use crate::decls::{push_decl, put_first_line, put_method_lines};

@@ -9,7 +9,7 @@ use Rattle.type_terms.specs.declared.descriptors.Node.{Node}
 use Rattle.type_terms.specs.declared.declarations.DeclNode.{DeclNode}
 use Rattle.type_terms.specs.Arenas.{Contents, AllBelow}
 use Rattle.type_terms.specs.Declarations.{decl_nodes}
-use Rattle.type_terms.specs.Environments.{decl_of}
+use Rattle.type_terms.specs.Declarations.{decl_of}
 use Rattle.name_index.specs.FullFile.{FullFile}
 use Rattle.session.specs.Answers.{Outcome, HasOutcome}
 use Rattle.session.specs.declared.objects.Declaration.{Declaration}

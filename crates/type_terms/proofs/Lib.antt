@@ -1,3 +1,2 @@
 pub mod NodeEqualityLemmas
 pub mod InsertionLemmas
-pub mod PackageLemmas

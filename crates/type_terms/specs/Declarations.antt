@@ -9,7 +9,9 @@ use Rattle.type_terms.specs.declared.declarations.DeclNode.{DeclNode}
 use Rattle.type_terms.specs.declared.declarations.DeclNode.TheVariants.{Var, Func, Constant, Defined, Alias, Parameter}
 use Rattle.type_terms.specs.Shapes.{ParamOf, SigOf, param_map, sig_map, sig_types}
 use Rattle.type_terms.specs.Trees.{Text, Tree}
+use Rattle.type_terms.specs.declared.descriptors.Node.{Node}
 use Rattle.type_terms.specs.NodeShapes.{param_shape, sig_shape}
+use Rattle.type_terms.specs.Denotation.{tree}
 
 -- a method of a defined type, with its receiver
 pub record ReceiverOf (P S R : Type 0) : Type 0 where
@@ -72,3 +74,7 @@ decl_form (Parameter pos implicit constraint) = type_parameter_of pos implicit c
 -- the nodes that stand in a declaration, in reading order
 abbrev pub decl_nodes : DeclNode → List ℕ
 decl_nodes decl = form_types (decl_form decl)
+
+-- the declaration that a declaration over nodes denotes
+abbrev pub decl_of : List Node → DeclNode → Decl
+decl_of nodes node = form_map (λ x. x) (λ x. x) (tree nodes) (decl_form node)

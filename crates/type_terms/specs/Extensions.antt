@@ -1,16 +1,13 @@
 -- What stays as an arena is extended.
-use Rattle.std.proofs.Common.{◌≡◌, ℕ, ◌<◌, ◌≤◌, List, [], ◌++◌, length, Option, refl, ap, sym, ◌∙◌, subst, arith}
+use Rattle.std.proofs.Common.{◌≡◌, ℕ, ◌<◌, ◌≤◌, List, [], ◌++◌, length, refl, ap, sym, ◌∙◌, arith}
 use Rattle.std.proofs.Common.{length-append, append_assoc}
 use Rattle.std.proofs.lemmas.List.{append-nil}
-use Rattle.go_values.specs.declared.qualified.QName.{QName}
-use Rattle.type_terms.specs.declared.descriptors.Node.{Node}
 use Rattle.type_terms.specs.declared.declarations.DeclNode.{DeclNode}
 use Rattle.type_terms.specs.Denotation.{tree}
 use Rattle.type_terms.specs.Arenas.{Contents, AllBelow, Extends}
 use Rattle.type_terms.specs.Denoted.{tree_stays, all_weaker}
-use Rattle.type_terms.specs.Declarations.{decl_nodes}
-use Rattle.type_terms.specs.Environments.{Entry, decl_of}
-use Rattle.type_terms.specs.EntryLaws.{decl_of-stays}
+use Rattle.type_terms.specs.Declarations.{decl_nodes, decl_of}
+use Rattle.type_terms.specs.DeclarationLaws.{decl_of-stays}
 
 pub extends_itself : (contents : Contents) → Extends contents contents
 extends_itself contents = record { more = []; nodes = sym (append-nil contents.nodes); limit = refl }
@@ -42,12 +39,3 @@ pub extends_decl : (old new : Contents) → Extends old new → (decl : DeclNode
     → AllBelow (length old.nodes) (decl_nodes decl) → decl_of new.nodes decl ≡ decl_of old.nodes decl
 extends_decl old new grown decl below = ap (λ nodes. decl_of nodes decl) grown.nodes ∙ decl_of-stays old.nodes
     grown.more decl below
-
--- An environment may still be used, and means the same: for its law `stays`.
-pub extends_env : (stands : List Node → Type 0) (entries : List Node → QName → Option Entry)
-    → ((nodes more : List Node) → stands nodes → stands (nodes ++ more) × (entries (nodes ++ more) ≡ entries nodes))
-    → (old new : Contents) → Extends old new → stands old.nodes → stands new.nodes
-    × (entries new.nodes ≡ entries old.nodes)
-extends_env stands entries stays old new grown here =
-    let later = stays old.nodes grown.more here in
-    (subst stands (sym grown.nodes) later.0, ap entries grown.nodes ∙ later.1)

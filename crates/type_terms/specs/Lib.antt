@@ -13,12 +13,8 @@ pub mod Denotation
 pub mod Arenas
 pub mod Denoted
 pub mod Declarations
-pub mod References
-pub mod Environments
-pub mod Packages
-pub mod EntryLaws
+pub mod DeclarationRules
+pub mod DeclarationLaws
 pub mod Extensions
-pub mod Exported
-pub mod ReferenceLaws
 pub mod Additions
 pub mod AdditionLaws

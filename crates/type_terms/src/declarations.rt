@@ -1,7 +1,7 @@
 use crate::lists::{MethodList, Nodes};
 use crate::literals::{ParamNode, Sig};
 use crate::node_numbers::NodeId;
-use go_values::{Bytes, Const, FileInfo, Pos};
+use go_values::{Bytes, Const, Pos};
 
 /// A method of a defined type.
 #[derive(Clone, Debug, Drop, PartialEq, Eq, Hash)]
@@ -49,17 +49,4 @@ pub enum DeclNode {
         implicit: bool,
         constraint: NodeId,
     },
-}
-
-/// A package. Its declarations are sorted by name, each name once, and hold the type parameters under their export
-/// names: that of the owner, a dot and its own, as `T.P` or `T.Method.P`. Its imports are sorted paths, each once,
-/// without `unsafe`. The lines of a file start at 0 and rise, and none starts behind the file's end. What asks for a
-/// package says all this by `PackageStands`.
-#[derive(Debug, Drop)]
-pub struct Package {
-    pub path: Bytes,
-    pub name: Bytes,
-    pub imports: Vec<Bytes>,
-    pub decls: Vec<(Bytes, DeclNode)>,
-    pub files: Vec<FileInfo>,
 }

@@ -2,14 +2,12 @@
 
 ghost use Rattle.std.specs.Prelude.{◌≡◌, ◌<◌, ◌↔◌, ℕ, List, ◌++◌, Bool, true, length};
 ghost use Rattle.std.specs.List.{Contains};
-ghost use Rattle.go_values.specs.declared.qualified.QName.{QName as Name};
 ghost use Rattle.type_terms.specs.declared.descriptors.Node.{Node};
 ghost use Rattle.type_terms.specs.Additions.{StandsIn, Covers, AddsOnly, Outgrows};
 ghost use Rattle.type_terms.specs.Arenas.{Contents, IsNew, AllBelow, IsArena, Extends};
 ghost use Rattle.type_terms.specs.Denotation.{tree};
 ghost use Rattle.type_terms.specs.NodeShapes.{node_shape, children};
 ghost use Rattle.type_terms.specs.Parts.{parts, tree_size};
-ghost use Rattle.type_terms.specs.References.{Reached, tree_references, level_references};
 ghost use Rattle.type_terms.specs.TreeEquality.{same_tree};
 ghost use Rattle.type_terms.specs.Shapes.{retype};
 ghost use Rattle.type_terms.specs.Trees.{Tree, level_of, tree_of};
@@ -34,32 +32,6 @@ pub fn parts_are_smaller()
 /// A test tells whether two types are equal trees.
 pub fn equality_of_types_is_tested()
     ensures { (left right : Tree) → (same_tree left right ≡ true) ↔ (left ≡ right) }
-{}
-
-/// The references of a type are those of its parts in reading order.
-pub fn references_follow_the_parts()
-    ensures { (type : Tree) → tree_references type ≡ level_references (level_of type) }
-{}
-
-/// A test that the names pass, and with each name those that it refers to, is passed by all that are reached.
-pub fn reach_is_least()
-    ensures { (refs : Name → List Name) (starts : List Name) (test : Name → Bool)
-        → ((q : Name) → Contains starts q → test q ≡ true)
-        → ((from to : Name) → test from ≡ true → Contains (refs from) to → test to ≡ true) → (q : Name)
-        → Reached refs starts q → test q ≡ true }
-{}
-
-/// What is reached from names that are reached is reached.
-pub fn reach_is_idempotent()
-    ensures { (refs : Name → List Name) (starts more : List Name)
-        → ((q : Name) → Contains more q → Reached refs starts q) → (q : Name) → Reached refs more q
-        → Reached refs starts q }
-{}
-
-/// From more names no fewer are reached.
-pub fn reach_is_monotone()
-    ensures { (refs : Name → List Name) (fewer more : List Name) → ((q : Name) → Contains fewer q → Contains more q)
-        → (q : Name) → Reached refs fewer q → Reached refs more q }
 {}
 
 /// What two calls add, one after the other, stands in the types in which the additions of each stand.

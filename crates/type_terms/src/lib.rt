@@ -1,31 +1,23 @@
-//! The types, declarations and packages of Go as values: an arena of shared descriptors, whose nodes denote finite
-//! trees over qualified names, and the environments that give the declarations behind names.
+//! The types and declarations of Go as values: an arena of shared descriptors, whose nodes denote finite trees over
+//! qualified names.
 #![tactic(auto)]
 
 mod declarations;
 mod descriptors;
-mod environments;
-mod exported;
 mod laws;
 mod lists;
 mod literals;
 mod node_numbers;
-mod overlay;
-mod packages;
 mod shared_nodes;
 
-pub use declarations::{DeclNode, Method, Package};
+pub use declarations::{DeclNode, Method};
 pub use descriptors::Node;
-pub use environments::{Env, EnvError, NoDeps};
-pub use exported::is_exported;
 pub use laws::{
     a_full_arena_is_outgrown, additions_join, equal_trees_have_equal_numbers,
     equality_of_types_is_tested, more_types_outgrow, nodes_keep_their_trees, parts_are_smaller,
-    reach_is_idempotent, reach_is_least, reach_is_monotone, references_follow_the_parts,
     want_of_nodes_joins,
 };
 pub use lists::{Fields, MethodList, Methods, Nodes, Params, Terms};
 pub use literals::{Dir, Field, IMethod, Origin, ParamNode, Sig, Term};
 pub use node_numbers::NodeId;
-pub use overlay::Over;
 pub use shared_nodes::{Arena, ArenaError, MAX_NODES};

@@ -3,7 +3,7 @@
 ghost use Rattle.std.specs.Prelude.{◌≡◌, length, IfOk, IfErr, IsErrOf};
 ghost use Rattle.type_terms.specs.Arenas.{AllBelow, Extends};
 ghost use Rattle.type_terms.specs.Declarations.{decl_nodes};
-ghost use Rattle.type_terms.specs.Environments.{decl_of};
+ghost use Rattle.type_terms.specs.Declarations.{decl_of};
 ghost use Rattle.decl_reader.specs.Faults.{IsNoFault};
 ghost use Rattle.decl_reader.specs.Blocks.{AllInside};
 ghost use Rattle.decl_reader.specs.Forms.{decl_form};

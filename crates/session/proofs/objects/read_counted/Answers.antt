@@ -1,5 +1,5 @@
 use Rattle.std.proofs.Common.{sym, subst}
-use Rattle.type_terms.specs.Environments.{decl_of}
+use Rattle.type_terms.specs.Declarations.{decl_of}
 use Rattle.decl_spelling.specs.Sections.{Sections}
 use Rattle.decl_spelling.specs.Declarations.{FirstFault}
 use Rattle.decl_spelling.specs.Spelling.{SpellsDecl}

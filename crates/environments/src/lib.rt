@@ -1,0 +1,17 @@
+//! Packages, and the environments that give the declarations behind names; which names a declaration refers to, and
+//! which can be reached from names.
+#![tactic(auto)]
+
+mod declaring;
+mod exported;
+mod laws;
+mod overlay;
+mod packages;
+
+pub use declaring::{Env, EnvError, NoDeps};
+pub use exported::is_exported;
+pub use laws::{
+    reach_is_idempotent, reach_is_least, reach_is_monotone, references_follow_the_parts,
+};
+pub use overlay::Over;
+pub use packages::Package;

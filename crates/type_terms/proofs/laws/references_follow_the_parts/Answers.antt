@@ -1,5 +1,0 @@
-use Rattle.type_terms.specs.ReferenceLaws.{references_of_level}
-use Rattle.type_terms.proofs.laws.references_follow_the_parts.Goals as goal
-
-pub returns : goal.returns
-returns c = references_of_level
