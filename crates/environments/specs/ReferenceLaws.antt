@@ -1,6 +1,6 @@
 -- The references of a type are those of its parts in reading order, and the names reached are the least set closed
 -- under references.
-use Rattle.std.proofs.Common.{◌≡◌, List, [], ◌∷◌, ◌++◌, length, refl, ap, sym, ◌∙◌, arith}
+use Rattle.std.proofs.Common.{◌≡◌, List, [], ◌∷◌, ◌++◌, length, Option, refl, ap, sym, ◌∙◌, arith}
 use Rattle.std.specs.List.{flat_map, Contains}
 use Rattle.std.proofs.lemmas.Grind.{flat_map-append}
 use Rattle.go_values.specs.declared.qualified.QName.{QName}
@@ -8,10 +8,12 @@ use Rattle.type_terms.specs.Shapes.{param_types, field_types, method_types, term
 use Rattle.type_terms.specs.Trees.{Tree, pointer, slice, array, chan, map_type, func, struct, interface, instance}
 use Rattle.type_terms.specs.Trees.{union, Trees, no_types, types, Params, no_params, params, Fields, no_fields, fields}
 use Rattle.type_terms.specs.Trees.{Methods, no_methods, methods, Terms, no_terms, terms, type_list, param_list}
-use Rattle.type_terms.specs.Trees.{field_list, method_list, term_list, level_of}
+use Rattle.type_terms.specs.Trees.{field_list, method_list, term_list, predeclared, named, parameter, alias}
+use Rattle.type_terms.specs.Parts.{parts}
+use Rattle.environments.specs.Environments.{Entry}
 use Rattle.environments.specs.References.{argument_count, tree_references, base_references, types_references}
 use Rattle.environments.specs.References.{params_references, fields_references, methods_references, terms_references}
-use Rattle.environments.specs.References.{level_references, Reached, started, followed}
+use Rattle.environments.specs.References.{IsByParts, entry_names, Reached, started, followed}
 
 arguments : (xs : Trees) → argument_count xs ≡ length (type_list xs)
 arguments no_types = refl
@@ -52,36 +54,49 @@ single : {X : Type 0} (xs : List X) → xs ≡ xs ++ []
 single [] = refl
 single (x ∷ xs) = ap (λ r. x ∷ r) (single xs)
 
-pub references_of_level : (tree : Tree) → tree_references tree ≡ level_references (level_of tree)
-references_of_level (pointer type) = single (tree_references type)
-references_of_level (slice type) = single (tree_references type)
-references_of_level (array size type) = single (tree_references type)
-references_of_level (chan dir type) = single (tree_references type)
-references_of_level (map_type key type) = ap (λ r. tree_references key ++ r) (single (tree_references type))
-references_of_level (func home ins outs variadic) = of_sig ins outs
-references_of_level (struct home inner) = of_fields inner
-references_of_level (interface home embedded inner) =
+-- the references of a type that is neither a name nor an instance are those of its parts
+pub references_of_parts : (type : Tree) → IsByParts type → tree_references type ≡ flat_map tree_references (parts type)
+references_of_parts (named q) by_parts = absurd by_parts
+references_of_parts (parameter q) by_parts = absurd by_parts
+references_of_parts (alias q) by_parts = absurd by_parts
+references_of_parts (instance base args) by_parts = absurd by_parts
+references_of_parts (predeclared basic) _ = refl
+references_of_parts (pointer type) _ = single (tree_references type)
+references_of_parts (slice type) _ = single (tree_references type)
+references_of_parts (array size type) _ = single (tree_references type)
+references_of_parts (chan dir type) _ = single (tree_references type)
+references_of_parts (map_type key type) _ = ap (λ r. tree_references key ++ r) (single (tree_references type))
+references_of_parts (func home ins outs variadic) _ = of_sig ins outs
+references_of_parts (struct home inner) _ = of_fields inner
+references_of_parts (interface home embedded inner) _ =
     (λ i. of_types embedded i ++ of_methods inner i) ∙ sym
     (flat_map-append tree_references (type_list embedded) (flat_map method_types (method_list inner)))
-references_of_level (instance base args) = λ i. of_types args i ++ base_references base (arguments args i)
-references_of_level (union inner) = of_terms inner
-references_of_level _ = refl
+references_of_parts (union inner) _ = of_terms inner
 
-module _ (refs : QName → List QName) where
+-- those of an instance are those of its arguments, and then its base
+pub references_of_instance : (base : Tree) (args : Trees)
+    → tree_references (instance base args)
+    ≡ flat_map tree_references (type_list args) ++ base_references base (length (type_list args))
+references_of_instance base args = λ i. of_types args i ++ base_references base (arguments args i)
+
+module _ (entries : QName → Option Entry) where
+  abbrev refs : QName → List QName
+  refs q = entry_names (entries q)
+
   -- whatever holds of the names and, with a name, of those it refers to, holds of all that are reached
   pub reached_least : (starts : List QName) (P : QName → Type 0) → ((q : QName) → Contains starts q → P q)
-      → ((from to : QName) → P from → Contains (refs from) to → P to) → (q : QName) → Reached refs starts q → P q
+      → ((from to : QName) → P from → Contains (refs from) to → P to) → (q : QName) → Reached entries starts q → P q
   reached_least starts P begins closed _ (started q h) = begins q h
   reached_least starts P begins closed _ (followed from to r h) = closed from to
       (reached_least starts P begins closed from r) h
 
   -- what is reached from reached names is reached
-  pub reached_again : (starts more : List QName) → ((q : QName) → Contains more q → Reached refs starts q)
-      → (q : QName) → Reached refs more q → Reached refs starts q
-  reached_again starts more inside = reached_least more (Reached refs starts) inside (λ from to r h.
+  pub reached_again : (starts more : List QName) → ((q : QName) → Contains more q → Reached entries starts q)
+      → (q : QName) → Reached entries more q → Reached entries starts q
+  reached_again starts more inside = reached_least more (Reached entries starts) inside (λ from to r h.
       followed from to r h)
 
   -- from more names more is reached
   pub reached_monotone : (fewer more : List QName) → ((q : QName) → Contains fewer q → Contains more q) → (q : QName)
-      → Reached refs fewer q → Reached refs more q
+      → Reached entries fewer q → Reached entries more q
   reached_monotone fewer more inside = reached_again more fewer (λ q h. started q (inside q h))

@@ -1,26 +1,15 @@
--- The names that a declaration refers to, and those that can be reached from names.
-use Rattle.std.specs.Prelude.{ℕ, List, [], ◌∷◌, ◌++◌, ◌+◌, map, length}
+-- The names that a declaration refers to, and those that are reached over an environment's entries.
+use Rattle.std.specs.Prelude.{ℕ, List, [], ◌∷◌, ◌++◌, ◌+◌, Option, Some, None, map}
 use Rattle.std.specs.List.{flat_map, Contains}
 use Rattle.go_values.specs.declared.qualified.QName.{QName}
 use Rattle.type_terms.specs.Trees.{Tree, predeclared, named, parameter, alias, pointer, slice, array, chan, map_type}
 use Rattle.type_terms.specs.Trees.{func, struct, interface, instance, union, Trees, no_types, types, Params, no_params}
 use Rattle.type_terms.specs.Trees.{params, Fields, no_fields, fields, Methods, no_methods, methods, Terms, no_terms}
-use Rattle.type_terms.specs.Trees.{terms, Level}
-use Rattle.type_terms.specs.Shapes.{named_of, parameter_of, alias_of, instance_of, shape_types}
+use Rattle.type_terms.specs.Trees.{terms}
 use Rattle.type_terms.specs.Declarations.{Decl, form_types}
-
--- How a name is used: as a type, a type parameter or an alias without arguments, or as the base of an instance with as
--- many arguments.
-pub data Role : Type 0 where
-  as_defined : Role
-  as_parameter : Role
-  as_alias : Role
-  defined_base : ℕ → Role
-  alias_base : ℕ → Role
-
-pub record Reference : Type 0 where
-  pub name : QName
-  pub role : Role
+use Rattle.environments.specs.declared.mentions.Role.TheVariants.{Defined, Parameter, Alias, DefinedBase, AliasBase}
+use Rattle.environments.specs.declared.mentions.Reference.{Reference}
+use Rattle.environments.specs.Environments.{Entry, declared, damaged}
 
 -- the arguments of an instance
 abbrev pub argument_count : Trees → ℕ
@@ -31,9 +20,9 @@ argument_count (types type rest) = 1 + argument_count rest
 abbrev mutual
   pub tree_references : Tree → List Reference
   tree_references (predeclared basic) = []
-  tree_references (named q) = record { name = q; role = as_defined } ∷ []
-  tree_references (parameter q) = record { name = q; role = as_parameter } ∷ []
-  tree_references (alias q) = record { name = q; role = as_alias } ∷ []
+  tree_references (named q) = record { name = q; role = Defined } ∷ []
+  tree_references (parameter q) = record { name = q; role = Parameter } ∷ []
+  tree_references (alias q) = record { name = q; role = Alias } ∷ []
   tree_references (pointer type) = tree_references type
   tree_references (slice type) = tree_references type
   tree_references (array size type) = tree_references type
@@ -46,8 +35,8 @@ abbrev mutual
   tree_references (union inner) = terms_references inner
 
   pub base_references : Tree → ℕ → List Reference
-  base_references (named q) count = record { name = q; role = defined_base count } ∷ []
-  base_references (alias q) count = record { name = q; role = alias_base count } ∷ []
+  base_references (named q) count = record { name = q; role = DefinedBase count } ∷ []
+  base_references (alias q) count = record { name = q; role = AliasBase count } ∷ []
   base_references _ count = []
 
   pub types_references : Trees → List Reference
@@ -71,22 +60,30 @@ abbrev mutual
   terms_references no_terms = []
   terms_references (terms tilde type rest) = tree_references type ++ terms_references rest
 
--- the same, by one level of the type
-abbrev pub level_references : Level → List Reference
-level_references (named_of name path) = record { name = record { path = path; name = name }; role = as_defined } ∷ []
-level_references (parameter_of name path) = record { name = record { path = path; name = name }; role = as_parameter }
-    ∷ []
-level_references (alias_of name path) = record { name = record { path = path; name = name }; role = as_alias } ∷ []
-level_references (instance_of base args) = flat_map tree_references args ++ base_references base (length args)
-level_references level = flat_map tree_references (shape_types level)
+-- a type that is neither a name nor an instance of one
+abbrev pub IsByParts : Tree → Type 0
+IsByParts (named q) = ⊥
+IsByParts (parameter q) = ⊥
+IsByParts (alias q) = ⊥
+IsByParts (instance base args) = ⊥
+IsByParts _ = Unit {0}
 
+-- the references of a declaration
 abbrev pub references : Decl → List Reference
 references decl = flat_map tree_references (form_types decl)
 
 abbrev pub reference_names : Decl → List QName
 reference_names decl = map (λ reference. reference.name) (references decl)
 
--- the least set that holds the names and, with each name, those that it refers to
-pub data Reached (refs : QName → List QName) (starts : List QName) : QName → Type 0 where
-  started : (q : QName) → Contains starts q → Reached refs starts q
-  followed : (from to : QName) → Reached refs starts from → Contains (refs from) to → Reached refs starts to
+-- the names that the declaration behind a name refers to; none where nothing stands there, or a fault
+abbrev pub entry_names : Option Entry → List QName
+entry_names (Some (declared decl)) = reference_names decl
+entry_names (Some (damaged fault read)) = []
+entry_names None = []
+
+-- The names that are reached from some over an environment's entries: these and, with each name, those to which its
+-- declaration refers.
+pub data Reached (entries : QName → Option Entry) (starts : List QName) : QName → Type 0 where
+  started : (q : QName) → Contains starts q → Reached entries starts q
+  followed : (from to : QName) → Reached entries starts from → Contains (entry_names (entries from)) to
+      → Reached entries starts to

@@ -1,33 +1,53 @@
 //! The laws of the definitions, as clauses of functions that do nothing.
 
-ghost use Rattle.std.specs.Prelude.{◌≡◌, List, Bool, true};
-ghost use Rattle.std.specs.List.{Contains};
+ghost use Rattle.std.specs.Prelude.{◌≡◌, List, [], ◌∷◌, ◌++◌, length, Bool, true, Option};
+ghost use Rattle.std.specs.List.{flat_map, Contains};
 ghost use Rattle.go_values.specs.declared.qualified.QName.{QName as Name};
-ghost use Rattle.type_terms.specs.Trees.{Tree, level_of};
-ghost use Rattle.environments.specs.References.{Reached, tree_references, level_references};
+ghost use Rattle.type_terms.specs.Trees.{Tree, named, parameter, alias, instance, Trees, type_list};
+ghost use Rattle.type_terms.specs.Parts.{parts};
+ghost use Rattle.environments.specs.Environments.{Entry};
+ghost use Rattle.environments.specs.References.{Reached, IsByParts, tree_references, entry_names};
 
-/// The references of a type are those of its parts in reading order.
+use crate::mentions::Role;
+
+/// A name is a reference itself. The references of an instance are those of its arguments, and then its base with as
+/// many arguments. Those of every other type are those of its parts, in reading order.
 pub fn references_follow_the_parts()
-    ensures { (type : Tree) → tree_references type ≡ level_references (level_of type) }
+    ensures names { (q : Name)
+        → (tree_references (named q) ≡ record { name = q; role = Role.Defined } ∷ [])
+        × (tree_references (parameter q) ≡ record { name = q; role = Role.Parameter } ∷ [])
+        × (tree_references (alias q) ≡ record { name = q; role = Role.Alias } ∷ []) }
+    ensures instances { (q : Name) (args : Trees)
+        → (tree_references (instance (named q) args) ≡ flat_map tree_references (type_list args)
+        ++ record { name = q; role = Role.DefinedBase (length (type_list args)) } ∷ [])
+        × (tree_references (instance (alias q) args) ≡ flat_map tree_references (type_list args)
+        ++ record { name = q; role = Role.AliasBase (length (type_list args)) } ∷ []) }
+    ensures others { (type : Tree) → IsByParts type → tree_references type ≡ flat_map tree_references (parts type) }
 {}
 
-/// A test that the names pass, and with each name those that it refers to, is passed by all that are reached.
+/// What is reached from names is the least set that has them and, with a name, those to which its declaration refers:
+/// it is such a set, and a test that holds of one holds of all that are reached.
 pub fn reach_is_least()
-    ensures { (refs : Name → List Name) (starts : List Name) (test : Name → Bool)
+    ensures starts { (entries : Name → Option Entry) (starts : List Name) (q : Name) → Contains starts q
+        → Reached entries starts q }
+    ensures closed { (entries : Name → Option Entry) (starts : List Name) (from to : Name)
+        → Reached entries starts from → Contains (entry_names (entries from)) to → Reached entries starts to }
+    ensures least { (entries : Name → Option Entry) (starts : List Name) (test : Name → Bool)
         → ((q : Name) → Contains starts q → test q ≡ true)
-        → ((from to : Name) → test from ≡ true → Contains (refs from) to → test to ≡ true) → (q : Name)
-        → Reached refs starts q → test q ≡ true }
+        → ((from to : Name) → test from ≡ true → Contains (entry_names (entries from)) to → test to ≡ true)
+        → (q : Name) → Reached entries starts q → test q ≡ true }
 {}
 
 /// What is reached from names that are reached is reached.
 pub fn reach_is_idempotent()
-    ensures { (refs : Name → List Name) (starts more : List Name)
-        → ((q : Name) → Contains more q → Reached refs starts q) → (q : Name) → Reached refs more q
-        → Reached refs starts q }
+    ensures { (entries : Name → Option Entry) (starts more : List Name)
+        → ((q : Name) → Contains more q → Reached entries starts q) → (q : Name) → Reached entries more q
+        → Reached entries starts q }
 {}
 
 /// From more names no fewer are reached.
 pub fn reach_is_monotone()
-    ensures { (refs : Name → List Name) (fewer more : List Name) → ((q : Name) → Contains fewer q → Contains more q)
-        → (q : Name) → Reached refs fewer q → Reached refs more q }
+    ensures { (entries : Name → Option Entry) (fewer more : List Name)
+        → ((q : Name) → Contains fewer q → Contains more q) → (q : Name) → Reached entries fewer q
+        → Reached entries more q }
 {}

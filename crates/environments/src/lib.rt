@@ -5,6 +5,7 @@
 mod declaring;
 mod exported;
 mod laws;
+mod mentions;
 mod overlay;
 mod packages;
 
@@ -13,5 +14,6 @@ pub use exported::is_exported;
 pub use laws::{
     reach_is_idempotent, reach_is_least, reach_is_monotone, references_follow_the_parts,
 };
+pub use mentions::{Reference, Role};
 pub use overlay::Over;
 pub use packages::Package;

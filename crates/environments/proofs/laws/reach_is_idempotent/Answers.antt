@@ -2,4 +2,4 @@ use Rattle.environments.specs.ReferenceLaws.{reached_again}
 use Rattle.environments.proofs.laws.reach_is_idempotent.Goals as goal
 
 pub returns : goal.returns
-returns c = λ refs. reached_again refs
+returns c = λ entries. reached_again entries
