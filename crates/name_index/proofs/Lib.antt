@@ -11,3 +11,5 @@ pub mod ListedLemmas
 pub mod SortedLemmas
 pub mod OffsetLemmas
 pub mod HolderLemmas
+pub mod LocalLemmas
+pub mod FileLocal

@@ -9,5 +9,5 @@ mod lookup;
 mod records;
 
 pub use image::{Image, read_full_file};
-pub use laws::{file_or_breach, listed_once};
+pub use laws::{breaches_are_local, file_or_breach, listed_once};
 pub use limits::FILE_LIMIT;

@@ -39,7 +39,7 @@ ahead_fits s after ahead fits = omega (arith, ahead.same_end, ap length ahead.be
 pub ahead_place : (s after : Spot) → IsAhead s after → place s ≤ place after
 ahead_place s after ahead = omega (arith, ahead.same_end, ap length ahead.behind, length-append ahead.front after.left)
 
-among_from : (from less end end' : ℕ) (f : ByteFault) → less ≤ from → end ≡ end' → IsAmong from end f → IsAmong less end' f
+pub among_from : (from less end end' : ℕ) (f : ByteFault) → less ≤ from → end ≡ end' → IsAmong from end f → IsAmong less end' f
 among_from from less end end' f le same among = by (place_of_fault f) among
   where
     by : (o : Option ℕ) → IfSome o (λ at. (from ≤ at) × (at < end)) → IfSome o (λ at. (less ≤ at) × (at < end'))
@@ -179,17 +179,21 @@ module _ {X Y : Type 0} (a : Spot → Result (X × Spot) ByteFault) where
     ];
   }
 
-  pub then_local : (b : X → Spot → Result (Y × Spot) ByteFault) → IsLocal a → ((x : X) → IsLocal (b x)) → IsLocal (λ s. a s >>= λ r. b r.0 r.1)
-  then_local b first second = record {
-    steady = then_steady a (λ start. b) first.steady (λ start x. (second x).steady);
-    inside = λ s f fits e plain. elim (bind_err (a s) (λ r. b r.0 r.1) f e) [
+  -- the value may tell that place too
+  pub then_placed : (b : ℕ → X → Spot → Result (Y × Spot) ByteFault) → IsLocal a → ((start : ℕ) (x : X) → IsLocal (b start x)) → IsLocal (after_step a b)
+  then_placed b first second = record {
+    steady = then_steady a b first.steady (λ start x. (second start x).steady);
+    inside = λ s f fits e plain. elim (bind_err (a s) (λ r. b (place s) r.0 r.1) f e) [
       | inl one ↦ first.inside s f fits one plain
       | inr two ↦
           let ahead = first.steady.ahead s two.0.1 two.0.0 two.1 in
           among_from (place two.0.1) (place s) two.0.1.end s.end f (ahead_place s two.0.1 ahead) ahead.same_end
-          ((second two.0.0).inside two.0.1 f (ahead_fits s two.0.1 ahead fits) two.2 plain)
+          ((second (place s) two.0.0).inside two.0.1 f (ahead_fits s two.0.1 ahead fits) two.2 plain)
     ];
   }
+
+  pub then_local : (b : X → Spot → Result (Y × Spot) ByteFault) → IsLocal a → ((x : X) → IsLocal (b x)) → IsLocal (λ s. a s >>= λ r. b r.0 r.1)
+  then_local b first second = then_placed (λ start. b) first (λ start. second)
 
   pub from_then : (start : ℕ) (b : X → Spot → Result (Y × Spot) ByteFault) → IsLocal a → ((x : X) → IsLocalFrom start (b x)) → IsLocalFrom start (λ s. a s >>= λ r. b r.0 r.1)
   from_then start b first second = record {
@@ -230,11 +234,11 @@ from_judged start (Err g) b stands goes = record {
   inside = λ s f fits le lt e plain. stands_among start s.end f lt (subst (StandsAt start) (fault_is g f e) (stands g refl));
 }
 
-demand_fault : (c : Bool) (f g : ByteFault) → demand c f ≡ Err g → f ≡ g
+pub demand_fault : (c : Bool) (f g : ByteFault) → demand c f ≡ Err g → f ≡ g
 demand_fault true f g e = absurd cc
 demand_fault false f g e = fault_is f g e
 
-or_fault_fault : {A : Type 0} (o : Option A) (f g : ByteFault) → or_fault f o ≡ Err g → f ≡ g
+pub or_fault_fault : {A : Type 0} (o : Option A) (f g : ByteFault) → or_fault f o ≡ Err g → f ≡ g
 or_fault_fault (Some x) f g e = absurd cc
 or_fault_fault None f g e = fault_is f g e
 
