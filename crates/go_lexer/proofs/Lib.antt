@@ -1,7 +1,9 @@
 pub mod Choices
 pub mod DigitGrammar
 pub mod EscapeDigits
+pub mod EscapeFaults
 pub mod EscapeGrammar
+pub mod FaultAgain
 pub mod FrontBytes
 pub mod Keywords
 pub mod Lengths
@@ -9,13 +11,16 @@ pub mod Letters
 pub mod MarkGrammar
 pub mod MarkHeads
 pub mod NumberAgain
+pub mod NumberShapes
 pub mod NumberTaken
 pub mod PieceAgain
 pub mod PieceTaken
 pub mod Readings
 pub mod Runs
 pub mod Shorter
+pub mod SourceFaults
 pub mod Sources
+pub mod SourceTexts
 pub mod Taken
 pub mod TokenTexts
 pub mod Turns

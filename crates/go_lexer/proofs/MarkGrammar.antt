@@ -5,6 +5,8 @@ use Rattle.go_lexer.specs.Marks.{is_single, is_pair, is_triple}
 use Rattle.go_lexer.specs.Front.{mark_one, mark_two, mark}
 use Rattle.go_lexer.specs.Grammar.{IsMark, IsLongest, BeginsComment, BeginsNumber, mark_owes, IsPiece}
 use Rattle.go_lexer.specs.Grammar as grammar
+use Rattle.go_lexer.specs.declared.pieces.Breach.TheVariants.{BadChar}
+use Rattle.go_lexer.specs.FaultGrammar.{IsBreach}
 use Rattle.go_lexer.proofs.Taken.{Stands, if_stands}
 
 abbrev pub NoPair : List ℕ → Type 0
@@ -40,18 +42,19 @@ longest_one text cs l p n (a ∷ b ∷ c ∷ d ∷ more) rest m e = absurd m
 abbrev Never : Type 0 → Type 0
 Never P = P → ⊥
 
-one_stands : (start : List ℕ) (a : ℕ) (after : List ℕ) → NoPair (a ∷ after) → NoTriple (a ∷ after) → Never (BeginsComment (a ∷ after)) → Never (BeginsNumber (a ∷ after)) → Stands (a ∷ after) (mark_one start a after)
-one_stands start a after p n nc nn = if_stands (a ∷ after) (is_single a) _ _ (λ m. grammar.mark (a ∷ []) after m (longest_one (a ∷ []) (a ∷ after) refl p n) nc nn) (λ _. tt)
+module _ (start : List ℕ) (a : ℕ) where
+  one_stands : (after : List ℕ) → (is_single a ≡ false → IsBreach (a ∷ after) BadChar start) → NoPair (a ∷ after) → NoTriple (a ∷ after) → Never (BeginsComment (a ∷ after)) → Never (BeginsNumber (a ∷ after)) → Stands (a ∷ after) (mark_one start a after)
+  one_stands after bad p n nc nn = if_stands (a ∷ after) (is_single a) _ _ (λ m. grammar.mark (a ∷ []) after m (longest_one (a ∷ []) (a ∷ after) refl p n) nc nn) bad
 
-two_stands : (start : List ℕ) (a : ℕ) (after : List ℕ) → NoTriple (a ∷ after) → Never (BeginsComment (a ∷ after)) → Never (BeginsNumber (a ∷ after)) → Stands (a ∷ after) (mark_two start a after (split after))
-two_stands start a [] n nc nn = one_stands start a [] tt n nc nn
-two_stands start a (b ∷ rest) n nc nn =
-    if_stands (a ∷ b ∷ rest) (is_pair a b) _ _ (λ m. grammar.mark (a ∷ b ∷ []) rest m (longest_two (a ∷ b ∷ []) (a ∷ b ∷ rest) refl n) nc nn)
-    (λ p. one_stands start a (b ∷ rest) p n nc nn)
+  two_stands : (after : List ℕ) → (is_single a ≡ false → IsBreach (a ∷ after) BadChar start) → NoTriple (a ∷ after) → Never (BeginsComment (a ∷ after)) → Never (BeginsNumber (a ∷ after)) → Stands (a ∷ after) (mark_two start a after (split after))
+  two_stands [] bad n nc nn = one_stands [] bad tt n nc nn
+  two_stands (b ∷ rest) bad n nc nn =
+      if_stands (a ∷ b ∷ rest) (is_pair a b) _ _ (λ m. grammar.mark (a ∷ b ∷ []) rest m (longest_two (a ∷ b ∷ []) (a ∷ b ∷ rest) refl n) nc nn)
+      (λ p. one_stands (b ∷ rest) bad p n nc nn)
 
-pub mark_stands : (start : List ℕ) (a : ℕ) (after : List ℕ) → (BeginsComment (a ∷ after) → ⊥) → (BeginsNumber (a ∷ after) → ⊥) → Stands (a ∷ after) (mark start a after)
-mark_stands start a [] nc nn = one_stands start a [] tt tt nc nn
-mark_stands start a (b ∷ []) nc nn = two_stands start a (b ∷ []) tt nc nn
-mark_stands start a (b ∷ c ∷ rest) nc nn =
-    if_stands (a ∷ b ∷ c ∷ rest) (is_triple a b c) _ _ (λ m. grammar.mark (a ∷ b ∷ c ∷ []) rest m (longest_three (a ∷ b ∷ c ∷ []) (a ∷ b ∷ c ∷ rest) refl) nc nn)
-    (λ n. two_stands start a (b ∷ c ∷ rest) n nc nn)
+  pub mark_stands : (after : List ℕ) → (is_single a ≡ false → IsBreach (a ∷ after) BadChar start) → (BeginsComment (a ∷ after) → ⊥) → (BeginsNumber (a ∷ after) → ⊥) → Stands (a ∷ after) (mark start a after)
+  mark_stands [] bad nc nn = one_stands [] bad tt tt nc nn
+  mark_stands (b ∷ []) bad nc nn = two_stands (b ∷ []) bad tt nc nn
+  mark_stands (b ∷ c ∷ rest) bad nc nn =
+      if_stands (a ∷ b ∷ c ∷ rest) (is_triple a b c) _ _ (λ m. grammar.mark (a ∷ b ∷ c ∷ []) rest m (longest_three (a ∷ b ∷ c ∷ []) (a ∷ b ∷ c ∷ rest) refl) nc nn)
+      (λ n. two_stands (b ∷ c ∷ rest) bad n nc nn)

@@ -26,7 +26,7 @@ each_append p [] ys h k = k
 each_append p (x ∷ xs) ys h k = (h.0, each_append p xs ys h.1 k)
 
 -- the base
-abbrev pair : Base → List ℕ → Base × List ℕ
+abbrev pub pair : Base → List ℕ → Base × List ℕ
 pair base digits = (base, digits)
 
 -- a character that makes no prefix
@@ -54,7 +54,7 @@ abbrev Plain : Base → List ℕ → Type 0
 Plain Decimal digits = Each plain digits
 Plain _ digits = Unit {0}
 
-letter_base : (base : Base) (small large letter : ℕ) (digits : List ℕ) → IsLetter small large letter → base_of (digit_zero ∷ small ∷ digits) ≡ pair base digits → base_of (digit_zero ∷ large ∷ digits) ≡ pair base digits
+pub letter_base : (base : Base) (small large letter : ℕ) (digits : List ℕ) → IsLetter small large letter → base_of (digit_zero ∷ small ∷ digits) ≡ pair base digits → base_of (digit_zero ∷ large ∷ digits) ≡ pair base digits
     → base_of (digit_zero ∷ letter ∷ digits) ≡ pair base digits
 letter_base base small large letter digits l f g = ⊎_elim (λ e. subst (λ c. base_of (digit_zero ∷ c ∷ digits) ≡ pair base digits) (sym e) f) (λ e. subst (λ c. base_of (digit_zero ∷ c ∷ digits) ≡ pair base digits) (sym e) g) l
 
@@ -71,14 +71,14 @@ point_ends Binary = refl
 point_ends Octal = refl
 point_ends Hexadecimal = refl
 
-abbrev parts : Base → List ℕ → Option (List ℕ) → List ℕ → Mantissa
+abbrev pub parts : Base → List ℕ → Option (List ℕ) → List ℕ → Mantissa
 parts base whole fraction rest = record { base = base; whole = whole; fraction = fraction; rest = rest }
 
-abbrev EachFraction : Base → Option (List ℕ) → List ℕ → Type 0
+abbrev pub EachFraction : Base → Option (List ℕ) → List ℕ → Type 0
 EachFraction base None after = strip point after ≡ None
 EachFraction base (Some fraction) after = Each (run base) fraction
 
-mantissa_again : (base : Base) (whole : List ℕ) (fraction : Option (List ℕ)) (after : List ℕ) → Each (run base) whole → EachFraction base fraction after → Ends (run base) after
+pub mantissa_again : (base : Base) (whole : List ℕ) (fraction : Option (List ℕ)) (after : List ℕ) → Each (run base) whole → EachFraction base fraction after → Ends (run base) after
     → mantissa_in (pair base (spelled whole fraction ++ after)) ≡ parts base whole fraction after
 mantissa_again base whole None after w f e =
     ap (λ l. fraction_after base l (after_while (run base) (whole ++ after)) (strip point (after_while (run base) (whole ++ after)))) (front_again (run base) whole after w e)
@@ -154,7 +154,7 @@ exponent_again base letter sign digits tail l s d e =
     ∙ ap (some_scale letter digits) (after_again (in_class Digits) digits tail (ten_each digits d) e)
 
 -- a number by its parts
-by_parts : (cs : List ℕ) (m : Mantissa) (x : Option Exponent) → mantissa cs ≡ m → exponent m.base m.rest ≡ x → number cs ≡ number_by cs m x
+pub by_parts : (cs : List ℕ) (m : Mantissa) (x : Option Exponent) → mantissa cs ≡ m → exponent m.base m.rest ≡ x → number cs ≡ number_by cs m x
 by_parts cs m x e f = ap (λ k. number_by cs k (exponent k.base k.rest)) e ∙ ap (number_by cs m) f
 
 -- the end of a number: nothing, or `i`

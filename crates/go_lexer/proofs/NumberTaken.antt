@@ -23,7 +23,7 @@ pub data IsPrefix : Base → List ℕ → Type 0 where
   octal_prefix : (letter : ℕ) → IsLetter 111 79 letter → IsPrefix Octal (digit_zero ∷ letter ∷ [])
   hexadecimal_prefix : (letter : ℕ) → IsLetter 120 88 letter → IsPrefix Hexadecimal (digit_zero ∷ letter ∷ [])
 
-either : (c small large : ℕ) → (c == small || c == large) ≡ true → IsLetter small large c
+pub either : (c small large : ℕ) → (c == small || c == large) ≡ true → IsLetter small large c
 either c small large e = by_test (c == small) refl e
   where
     by_test : (b : Bool) → (c == small) ≡ b → (b || c == large) ≡ true → IsLetter small large c
@@ -53,7 +53,7 @@ prefixed_parts : (cs rest : List ℕ) → cs ≡ digit_zero ∷ rest → Prefixe
 prefixed_parts cs [] e = ([], refl, no_prefix)
 prefixed_parts cs (c ∷ digits) e = based_parts cs digits c (prefix_base c) e refl
 
-strip_is : (p : ℕ) (cs rest : List ℕ) → strip p cs ≡ Some rest → cs ≡ p ∷ rest
+pub strip_is : (p : ℕ) (cs rest : List ℕ) → strip p cs ≡ Some rest → cs ≡ p ∷ rest
 strip_is p [] rest e = cc
 strip_is p (c ∷ cs) rest e = by_test (eqb c p) refl e
   where

@@ -1,11 +1,8 @@
 -- A piece of the grammar is read.
-use Rattle.std.proofs.Common.{◌≡◌, ◌≢◌, ◌≤◌, ◌<◌, ◌+◌, ℕ, zero, suc, Bool, true, false, cond, ◌||◌, ◌==◌, List, [], ◌∷◌, ◌++◌, length, Option, Some, None, sym, ap, ◌∙◌, refl, subst, inl, inr, ⊎_elim, arith, eqb, ltb, append_assoc}
+use Rattle.std.proofs.Common.{◌≡◌, ◌≢◌, ◌≤◌, ◌<◌, ◌+◌, ℕ, zero, suc, Bool, true, false, cond, ◌||◌, ◌==◌, List, [], ◌∷◌, ◌++◌, length, Option, Some, None, sym, ap, ◌∙◌, refl, subst, inl, inr, ⊎_elim, arith, eqb, append_assoc}
 use borrow.Author.Tests.{true-eqb}
 use Rattle.std.proofs.lemmas.List.{length-append}
-use Rattle.std.proofs.lemmas.Bool.{lt-ltb}
-use Rattle.std.proofs.lemmas.Bool.Decides.{nat_tests}
 use Rattle.std.proofs.lemmas.Str.{encodes_same}
-use Rattle.std.specs.Char.{digit_value}
 use Rattle.std.specs.Str.{encode_utf8_all}
 use Rattle.code_tables.specs.declared.words.Keyword.{Keyword}
 use Rattle.code_tables.specs.Keyword.{keyword_text}
@@ -14,19 +11,20 @@ use Rattle.go_lexer.specs.declared.classes.Class.TheVariants.{Line, Raw}
 use Rattle.go_lexer.specs.Characters.{after_while, split, strip_pair, line_feed, double_quote, single_quote, back_quote, backslash, slash, star, point}
 use Rattle.go_lexer.specs.Classes.{is_letter, continues_name, is_space, is_decimal, in_class}
 use Rattle.go_lexer.specs.Comments.{general, general_by, commented}
-use Rattle.go_lexer.specs.Escapes.{Digits, number as digits_number, digits, whole, wrong, byte_escape, code_point_escape, is_code_point, is_simple, escape}
-use Rattle.go_lexer.specs.Literals.{Closing, closed, goes, escaped as escaped_element, element, closing_by, closing, text_literal, raw_end, rune_escape, rune_literal}
+use Rattle.go_lexer.specs.Escapes.{escape}
+use Rattle.go_lexer.specs.Literals.{Closing, closed, text_ends, goes, ends, escaped as escaped_element, element, closing_by, closing, text_literal, raw_end, rune_end, rune_escape, rune_literal}
 use Rattle.go_lexer.specs.Marks.{is_single, is_pair, is_triple}
 use Rattle.go_lexer.specs.Numbers.{number as read_number}
 use Rattle.go_lexer.specs.Pieces.{Piece, blank, token}
 use Rattle.go_lexer.specs.Words.{keyword_of, word_piece, word}
 use Rattle.go_lexer.specs.Front.{mark as read_mark, after_point, after_slash, piece}
-use Rattle.go_lexer.specs.Grammar.{Each, Ends, IsName, AreDigits, IsEscape, simple, hexadecimal, octal, short_code_point, long_code_point, IsStringText, nothing, character, escaped, IsRuneText, rune_character, rune_escaped, IsClosed, here, later, has_line_feed, IsMark, IsLongest, BeginsComment, BeginsNumber, mark_owes, IsPiece, white_space, line_comment, general_comment, identifier, keyword, number, rune, string, raw_string, mark}
-use Rattle.go_lexer.proofs.EscapeGrammar.{digits_again}
+use Rattle.go_lexer.specs.Grammar.{Each, Ends, IsName, IsStringText, nothing, character, escaped, IsRuneText, rune_character, rune_escaped, IsClosed, here, later, has_line_feed, IsMark, IsLongest, BeginsComment, BeginsNumber, mark_owes, IsPiece, white_space, line_comment, general_comment, identifier, keyword, number, rune, string, raw_string, mark}
+use Rattle.go_lexer.proofs.EscapeFaults.{double_plain, single_plain, escape_again}
 use Rattle.go_lexer.proofs.Keywords.{keyword_is, keyword_again, text_bytes}
 use Rattle.go_lexer.proofs.Lengths.{name_goes}
 use Rattle.go_lexer.proofs.Letters.{each, both, off, single_begins, letter_no_space, letter_no_decimal, letter_no_point, letter_no_slash, letter_no_double, letter_no_single, letter_no_back, decimal_no_space, word_letters}
 use Rattle.go_lexer.proofs.MarkHeads.{pair_single, triple_single}
+use Rattle.go_lexer.proofs.NumberShapes.{number_reads}
 use Rattle.go_lexer.proofs.Runs.{after_again, front_again}
 use Rattle.go_lexer.proofs.Taken.{or-assoc, or-false, pair_is}
 
@@ -36,84 +34,57 @@ if_yes b x y h = ap (λ t. cond t x y) h
 if_no : {A : Type 0} (b : Bool) (x y : A) → b ≡ false → cond b x y ≡ y
 if_no b x y h = ap (λ t. cond t x y) h
 
-apart : (c d : ℕ) → c ≢ d → eqb c d ≡ false
+pub apart : (c d : ℕ) → c ≢ d → eqb c d ≡ false
 apart c d n = by_eqb (eqb c d) refl
   where
     by_eqb : (b : Bool) → eqb c d ≡ b → b ≡ false
     by_eqb true h = absurd (n (true-eqb c d (sym h)))
     by_eqb false h = refl
 
--- escapes
-byte_again : (v : ℕ) (d : Digits) (rest : List ℕ) → d ≡ digits_number v rest → v < 256 → byte_escape d ≡ whole rest
-byte_again v d rest e l = ap byte_escape e ∙ if_yes (ltb v 256) (whole rest) wrong (lt-ltb v 256 l)
-
-code_point_again : (v : ℕ) (d : Digits) (rest : List ℕ) → d ≡ digits_number v rest → is_code_point v ≡ true → code_point_escape d ≡ whole rest
-code_point_again v d rest e l = ap code_point_escape e ∙ if_yes (is_code_point v) (whole rest) wrong l
-
--- what a quote has to leave to escapes
-pub record Plain (quote : ℕ) : Type 0 where
-  pub letter_x : is_simple quote 120 ≡ false
-  pub letter_u : is_simple quote 117 ≡ false
-  pub letter_U : is_simple quote 85 ≡ false
-  pub digit : (c : ℕ) → digit_value c < 8 → is_simple quote c ≡ false
-
-double_plain : Plain double_quote
-double_plain = record { letter_x = refl; letter_u = refl; letter_U = refl; digit = λ c h. grind (arith, nat_tests) }
-
-single_plain : Plain single_quote
-single_plain = record { letter_x = refl; letter_u = refl; letter_U = refl; digit = λ c h. grind (arith, nat_tests) }
-
-octal_letters : (c : ℕ) → digit_value c < 8 → (eqb c 120 ≡ false) × (eqb c 117 ≡ false) × (eqb c 85 ≡ false)
-octal_letters c h = (grind (arith, nat_tests), grind (arith, nat_tests), grind (arith, nat_tests))
-
-module _ (quote : ℕ) (plain : Plain quote) where
-  octal_again : (cs rest : List ℕ) (value : ℕ) → AreDigits 8 3 0 cs value → value < 256 → escape quote (cs ++ rest) ≡ whole rest
-  octal_again [] rest value h l = absurd h
-  octal_again (c ∷ cs) rest value h l =
-      let n = octal_letters c h.0 in
-      if_no (is_simple quote c) _ _ (plain.digit c h.0) ∙ if_no (eqb c 120) _ _ n.0 ∙ if_no (eqb c 117) _ _ n.1 ∙ if_no (eqb c 85) _ _ n.2
-      ∙ byte_again value (digits 8 3 0 (c ∷ (cs ++ rest))) rest (digits_again 8 3 0 (c ∷ cs) rest value h) l
-
-  pub escape_again : (front rest : List ℕ) → IsEscape quote front → escape quote (front ++ rest) ≡ whole rest
-  escape_again front rest (simple c h) = if_yes (is_simple quote c) _ _ h
-  escape_again front rest (hexadecimal cs value h l) = if_no (is_simple quote 120) _ _ plain.letter_x ∙ byte_again value (digits 16 2 0 (cs ++ rest)) rest (digits_again 16 2 0 cs rest value h) l
-  escape_again front rest (octal cs value h l) = octal_again cs rest value h l
-  escape_again front rest (short_code_point cs value h l) = if_no (is_simple quote 117) _ _ plain.letter_u ∙ code_point_again value (digits 16 4 0 (cs ++ rest)) rest (digits_again 16 4 0 cs rest value h) l
-  escape_again front rest (long_code_point cs value h l) = if_no (is_simple quote 85) _ _ plain.letter_U ∙ code_point_again value (digits 16 8 0 (cs ++ rest)) rest (digits_again 16 8 0 cs rest value h) l
-
 -- strings
 closing_goes : (n : ℕ) (cs rest : List ℕ) (how : Closing) → element cs ≡ goes rest → closing n rest ≡ how → closing (suc n) cs ≡ how
 closing_goes n cs rest how e h = ap (closing_by (closing n)) e ∙ h
 
-pub closing_again : (inside rest : List ℕ) → IsStringText inside → (n : ℕ) → length (inside ++ (double_quote ∷ rest)) ≤ n → closing n (inside ++ (double_quote ∷ rest)) ≡ closed rest
-closing_again inside rest nothing zero l = absurd (omega arith)
-closing_again inside rest nothing (suc n) l = refl
-closing_again inside rest (character c cs q f b t) zero l = absurd (omega arith)
-closing_again inside rest (character c cs q f b t) (suc n) l =
-    closing_goes n (c ∷ (cs ++ (double_quote ∷ rest))) (cs ++ (double_quote ∷ rest)) (closed rest)
+at_once : (tail : List ℕ) (how : Closing) → element tail ≡ ends how → (n : ℕ) → length tail ≤ n → closing n tail ≡ how
+at_once [] how e zero l = let h : ends text_ends ≡ ends how = e in cc
+at_once (c ∷ cs) how e zero l = absurd (omega arith)
+at_once tail how e (suc n) l = ap (closing_by (closing n)) e
+
+-- a string's text ends as what stands behind its characters and escapes says
+pub closing_ends : (inside : List ℕ) → IsStringText inside → (tail : List ℕ) (how : Closing) → element tail ≡ ends how → (n : ℕ) → length (inside ++ tail) ≤ n → closing n (inside ++ tail) ≡ how
+closing_ends inside nothing tail how h n l = at_once tail how h n l
+closing_ends inside (character c cs q f b t) tail how h zero l = absurd (omega arith)
+closing_ends inside (character c cs q f b t) tail how h (suc n) l =
+    closing_goes n (c ∷ (cs ++ tail)) (cs ++ tail) how
     (if_no (eqb c double_quote) _ _ (apart c double_quote q) ∙ if_no (eqb c line_feed) _ _ (apart c line_feed f) ∙ if_no (eqb c backslash) _ _ (apart c backslash b))
-    (closing_again cs rest t n (omega arith))
-closing_again inside rest (escaped e cs x t) zero l = absurd (omega arith)
-closing_again inside rest (escaped e cs x t) (suc n) l =
-    let after : List ℕ = cs ++ (double_quote ∷ rest) in
-    let regroup : (e ++ cs) ++ (double_quote ∷ rest) ≡ e ++ after = append_assoc e cs (double_quote ∷ rest) in
-    let long : length ((e ++ cs) ++ (double_quote ∷ rest)) ≡ length e + length after = ap length regroup ∙ length-append e after in
-    closing_goes n (backslash ∷ ((e ++ cs) ++ (double_quote ∷ rest))) after (closed rest)
-    (ap (escaped_element (backslash ∷ ((e ++ cs) ++ (double_quote ∷ rest)))) (ap (escape double_quote) regroup ∙ escape_again double_quote double_plain e after x))
-    (closing_again cs rest t n (omega arith))
+    (closing_ends cs t tail how h n (omega arith))
+closing_ends inside (escaped e cs x t) tail how h zero l = absurd (omega arith)
+closing_ends inside (escaped e cs x t) tail how h (suc n) l =
+    let after : List ℕ = cs ++ tail in
+    let regroup : (e ++ cs) ++ tail ≡ e ++ after = append_assoc e cs tail in
+    let long : length ((e ++ cs) ++ tail) ≡ length e + length after = ap length regroup ∙ length-append e after in
+    closing_goes n (backslash ∷ ((e ++ cs) ++ tail)) after how
+    (ap (escaped_element (backslash ∷ ((e ++ cs) ++ tail))) (ap (escape double_quote) regroup ∙ escape_again double_quote double_plain e after x))
+    (closing_ends cs t tail how h n (omega arith))
+
+closing_again : (inside rest : List ℕ) → IsStringText inside → (n : ℕ) → length (inside ++ (double_quote ∷ rest)) ≤ n → closing n (inside ++ (double_quote ∷ rest)) ≡ closed rest
+closing_again inside rest t n l = closing_ends inside t (double_quote ∷ rest) (closed rest) refl n l
 
 -- runes
-rune_again : (start inside rest : List ℕ) → IsRuneText inside → rune_literal start (inside ++ (single_quote ∷ rest)) ≡ token Rune true rest
-rune_again start inside rest (rune_character c q f b) =
+pub rune_text_reads : (start inside mid : List ℕ) → IsRuneText inside → rune_literal start (inside ++ mid) ≡ rune_end start mid
+rune_text_reads start inside mid (rune_character c q f b) =
     if_no (eqb c single_quote) _ _ (apart c single_quote q) ∙ if_no (eqb c line_feed) _ _ (apart c line_feed f) ∙ if_no (eqb c backslash) _ _ (apart c backslash b)
-rune_again start inside rest (rune_escaped e x) =
-    ap (rune_escape start (backslash ∷ (e ++ (single_quote ∷ rest)))) (escape_again single_quote single_plain e (single_quote ∷ rest) x)
+rune_text_reads start inside mid (rune_escaped e x) =
+    ap (rune_escape start (backslash ∷ (e ++ mid))) (escape_again single_quote single_plain e mid x)
+
+rune_again : (start inside rest : List ℕ) → IsRuneText inside → rune_literal start (inside ++ (single_quote ∷ rest)) ≡ token Rune true rest
+rune_again start inside rest t = rune_text_reads start inside (single_quote ∷ rest) t
 
 -- comments
 abbrev found : Bool → List ℕ → Option (Bool × List ℕ)
 found b rest = Some (b, rest)
 
-pair_none_by : (cs : List ℕ) (o : Option (List ℕ)) → strip_pair star slash cs ≡ o → ((other : List ℕ) → cs ≢ star ∷ slash ∷ other) → o ≡ None
+pub pair_none_by : (cs : List ℕ) (o : Option (List ℕ)) → strip_pair star slash cs ≡ o → ((other : List ℕ) → cs ≢ star ∷ slash ∷ other) → o ≡ None
 pair_none_by cs (Some rest) e n = absurd (n rest (pair_is star slash cs rest e))
 pair_none_by cs None e n = refl
 
@@ -163,7 +134,7 @@ digit_piece c after h = if_no (is_space c) _ _ (decimal_no_space c h) ∙ if_yes
 point_piece : (c d : ℕ) (after : List ℕ) → c ≡ point → is_decimal d ≡ true → piece (c ∷ d ∷ after) ≡ read_number (c ∷ d ∷ after)
 point_piece c d after e h = subst (λ x. piece (x ∷ d ∷ after) ≡ read_number (x ∷ d ∷ after)) (sym e) (if_yes (is_decimal d) _ _ h)
 
-number_piece : (text : List ℕ) → BeginsNumber text → piece text ≡ read_number text
+pub number_piece : (text : List ℕ) → BeginsNumber text → piece text ≡ read_number text
 number_piece [] b = absurd b
 number_piece (c ∷ []) b = digit_piece c [] b
 number_piece (c ∷ d ∷ cs) b = ⊎_elim (digit_piece c (d ∷ cs)) (λ h. point_piece c d cs h.0 h.1) b
@@ -199,7 +170,7 @@ mark_piece a after s nc nn =
     (choice _ _ (read_mark (a ∷ after) a after) (eqb a slash) (λ h. slash_mark (a ∷ after) a after (true-eqb a slash (sym h)) nc)
     (if_no (eqb a double_quote) _ _ (off (eqb a double_quote) double.0) ∙ if_no (eqb a single_quote) _ _ (off (eqb a single_quote) single.0) ∙ if_no (eqb a back_quote) _ _ (off (eqb a back_quote) back.0) ∙ if_no (is_letter a) _ _ (off (is_letter a) back.1)))
 
-no_longer : (b : Bool) → (b ≡ true → ⊥) → b ≡ false
+pub no_longer : (b : Bool) → (b ≡ true → ⊥) → b ≡ false
 no_longer true n = absurd (n refl)
 no_longer false n = refl
 
@@ -229,7 +200,7 @@ piece_again cs p (identifier name rest n e k) = name_piece name rest n e ∙ ap 
 piece_again cs p (keyword k rest e) =
     name_piece (keyword_text k) rest (letters_name (keyword_text k) (text_some k) (word_letters k)) e
     ∙ ap (λ w. word_piece (keyword_of w) rest) (text_bytes k) ∙ ap (λ o. word_piece o rest) (keyword_again k)
-piece_again cs p (number kind literal rest n b e) = number_piece (literal ++ rest) b ∙ e
+piece_again cs p (number kind literal rest n b l) = number_piece (literal ++ rest) b ∙ number_reads kind literal rest n l
 piece_again cs p (rune inside rest t) = rune_again (single_quote ∷ (inside ++ (single_quote ∷ rest))) inside rest t
 piece_again cs p (string inside rest t) =
     let left : List ℕ = inside ++ (double_quote ∷ rest) in

@@ -28,7 +28,7 @@ use Rattle.go_lexer.specs.Source.{is_nul, valid_front, text_of, ending_at, endin
 use Rattle.go_lexer.specs.TokenGrammar.{inserted, spanned, AreTokens, end_of_file, semicolon_at_end_of_file, between, end_of_line, semicolon_at_end_of_line, plain_token, last_of_line_token, IsUnmarked, marked, empty, unmarked, IsLexed}
 use Rattle.go_lexer.proofs.Lengths.{IsShorter, piece_shorter}
 use Rattle.go_lexer.proofs.PieceAgain.{piece_again}
-use Rattle.go_lexer.proofs.PieceTaken.{piece_stands}
+use Rattle.go_lexer.proofs.PieceTaken.{some_stands}
 use Rattle.go_lexer.proofs.Taken.{Stands}
 use Rattle.go_lexer.proofs.Turns.{lexed_piece}
 
@@ -84,7 +84,7 @@ tokens_take total zero owed [] ts l e = ended total owed ts e
 tokens_take total zero owed (c ∷ cs) ts l e = absurd (omega arith)
 tokens_take total (suc n) owed [] ts l e = ended total owed ts e
 tokens_take total (suc n) owed (c ∷ cs) ts l e =
-    after_piece total n owed (c ∷ cs) (piece (c ∷ cs)) ts (tokens_take total n) (piece_stands (c ∷ cs)) (wider (length (c ∷ cs)) (suc n) (piece (c ∷ cs)) (omega arith) (piece_shorter (c ∷ cs))) e
+    after_piece total n owed (c ∷ cs) (piece (c ∷ cs)) ts (tokens_take total n) (some_stands c cs) (wider (length (c ∷ cs)) (suc n) (piece (c ∷ cs)) (omega arith) (piece_shorter (c ∷ cs))) e
 
 -- tokens of the grammar are read
 piece_some : (cs : List ℕ) (p : Piece) → piece cs ≡ p → (stop_free : (b : Breach) (at : List ℕ) → p ≢ stop b at) → 0 < length cs
@@ -113,11 +113,11 @@ unmarked_by : (c : ℕ) (cs : List ℕ) (b : Bool) → eqb c byte_order_mark ≡
 unmarked_by c cs true e = subst (λ x. IsUnmarked (x ∷ cs) cs) (true-eqb byte_order_mark c (let h : eqb byte_order_mark c ≡ true = grind (arith, nat_tests) in sym h)) (marked cs)
 unmarked_by c cs false e = unmarked c cs (λ same. let h : eqb c byte_order_mark ≡ true = grind (arith, nat_tests) in (let k : false ≡ true = sym e ∙ h in cc))
 
-mark_takes : (cs : List ℕ) → IsUnmarked cs (after_mark cs)
+pub mark_takes : (cs : List ℕ) → IsUnmarked cs (after_mark cs)
 mark_takes [] = empty
 mark_takes (c ∷ cs) = unmarked_by c cs (eqb c byte_order_mark) refl
 
-mark_again : (cs text : List ℕ) → IsUnmarked cs text → after_mark cs ≡ text
+pub mark_again : (cs text : List ℕ) → IsUnmarked cs text → after_mark cs ≡ text
 mark_again cs text (marked rest) = refl
 mark_again cs text empty = refl
 mark_again cs text (unmarked c rest n) = by_eqb (eqb c byte_order_mark) refl

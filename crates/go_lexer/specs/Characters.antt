@@ -1,5 +1,5 @@
 -- A text as the list of its characters, read from the front. A character is its number.
-use Rattle.std.specs.Prelude.{ℕ, Bool, ◌==◌, List, [], ◌∷◌, if◌then◌else◌, Option, Some, None, option_and_then}
+use Rattle.std.specs.Prelude.{◌≡◌, ℕ, Bool, true, false, ◌==◌, List, [], ◌∷◌, if◌then◌else◌, Option, Some, None, option_and_then}
 
 -- characters that the rules name
 abbrev pub line_feed : ℕ
@@ -65,3 +65,13 @@ strip p (c ∷ cs) = if c == p then Some cs else None
 
 abbrev pub strip_pair : ℕ → ℕ → List ℕ → Option (List ℕ)
 strip_pair p q cs = option_and_then (strip q) (strip p cs)
+
+-- each character passes
+abbrev pub Each : (ℕ → Bool) → List ℕ → Type 0
+Each p [] = Unit {0}
+Each p (c ∷ cs) = (p c ≡ true) × Each p cs
+
+-- the text ends, or goes on with a character that doesn't pass
+abbrev pub Ends : (ℕ → Bool) → List ℕ → Type 0
+Ends p [] = Unit {0}
+Ends p (c ∷ cs) = p c ≡ false

@@ -8,25 +8,16 @@ use Rattle.code_tables.specs.Keyword.{keyword_text}
 use Rattle.go_lexer.specs.declared.token_kinds.TokenKind.{TokenKind}
 use Rattle.go_lexer.specs.declared.token_kinds.TokenKind.TheVariants.{Ident, Word, Rune, Text, Mark}
 use Rattle.go_lexer.specs.Characters.{line_feed, double_quote, single_quote, back_quote, backslash, star, slash, point}
+pub use Rattle.go_lexer.specs.Characters.{Each, Ends}
 use Rattle.go_lexer.specs.Classes.{is_letter, continues_name, is_space, is_decimal, in_class}
 use Rattle.go_lexer.specs.declared.classes.Class.TheVariants.{Line, Raw}
 use Rattle.go_lexer.specs.Front.{single_owes, pair_owes}
 use Rattle.go_lexer.specs.NumberGrammar.{IsNumber}
-use Rattle.go_lexer.specs.Numbers.{number as read_number}
+use Rattle.go_lexer.specs.NumberShape.{LooksLikeNumber}
 use Rattle.go_lexer.specs.Pieces.{Piece, blank, token}
 use Rattle.go_lexer.specs.Words.{keyword_owes}
 use Rattle.go_lexer.specs.Escapes.{is_code_point, is_simple}
 use Rattle.go_lexer.specs.Marks.{is_single, is_pair, is_triple}
-
--- each character passes
-abbrev pub Each : (ℕ → Bool) → List ℕ → Type 0
-Each p [] = Unit {0}
-Each p (c ∷ cs) = (p c ≡ true) × Each p cs
-
--- the text ends, or goes on with a character that doesn't pass
-abbrev pub Ends : (ℕ → Bool) → List ℕ → Type 0
-Ends p [] = Unit {0}
-Ends p (c ∷ cs) = p c ≡ false
 
 -- an identifier's spelling: a letter, and then letters and digits
 abbrev pub IsName : List ℕ → Type 0
@@ -118,7 +109,7 @@ pub data IsPiece : List ℕ → Piece → Type 0 where
       → IsPiece (keyword_text keyword ++ rest) (token (Word keyword) (keyword_owes keyword) rest)
   -- all that looks like a number, which is one
   number : (kind : TokenKind) (literal rest : List ℕ) → IsNumber kind literal → BeginsNumber (literal ++ rest)
-      → read_number (literal ++ rest) ≡ token kind true rest → IsPiece (literal ++ rest) (token kind true rest)
+      → LooksLikeNumber literal rest → IsPiece (literal ++ rest) (token kind true rest)
   rune : (inside rest : List ℕ) → IsRuneText inside
       → IsPiece (single_quote ∷ (inside ++ (single_quote ∷ rest))) (token Rune true rest)
   string : (inside rest : List ℕ) → IsStringText inside

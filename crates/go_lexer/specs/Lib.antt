@@ -7,10 +7,12 @@ pub mod Marks
 pub mod Pieces
 pub mod Words
 pub mod NumberGrammar
+pub mod NumberShape
 pub mod Numbers
 pub mod Front
 pub mod Grammar
 pub mod Lexing
 pub mod Source
 pub mod TokenGrammar
+pub mod FaultGrammar
 pub mod TokenTexts

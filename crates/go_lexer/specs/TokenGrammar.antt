@@ -1,13 +1,12 @@
 -- The tokens of a source (the language specification's sections Source code representation, Tokens and Semicolons).
-use Rattle.std.specs.Prelude.{◌≡◌, ◌≢◌, ℕ, true, false, not, List, [], ◌∷◌, length, Option, Some, None, Err}
+use Rattle.std.specs.Prelude.{◌≡◌, ◌≢◌, ℕ, true, false, not, List, [], ◌∷◌, length, Option, Some, None}
 use Rattle.std.specs.Str.{encode_utf8_all, all_scalars}
 use Rattle.go_lexer.specs.declared.token_kinds.Token.{Token}
 use Rattle.go_lexer.specs.declared.token_kinds.TokenKind.{TokenKind}
 use Rattle.go_lexer.specs.declared.token_kinds.TokenKind.TheVariants.{Inserted}
 use Rattle.go_lexer.specs.Characters.{byte_order_mark}
 use Rattle.go_lexer.specs.Grammar.{Each, IsPiece}
-use Rattle.go_lexer.specs.declared.token_kinds.LexFault.{LexFault}
-use Rattle.go_lexer.specs.Lexing.{place, lexed_source}
+use Rattle.go_lexer.specs.Lexing.{place}
 use Rattle.go_lexer.specs.Pieces.{blank, token}
 use Rattle.go_lexer.specs.Source.{is_nul}
 
@@ -52,7 +51,3 @@ pub record IsLexed (source : List ℕ) (tokens : List Token) : Type 0 where
   pub no_nul : Each (λ b. not (is_nul b)) source
   pub start : IsUnmarked characters text
   pub are : AreTokens (length source) None text tokens
-
--- what a reader from left to right meets in place of the next token
-abbrev pub IsFirstFault : List ℕ → LexFault → Type 0
-IsFirstFault source f = lexed_source source ≡ Err f

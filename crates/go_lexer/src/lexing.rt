@@ -1,8 +1,9 @@
-ghost use Rattle.std.specs.Prelude.{◌≡◌, ◌≤◌, ◌++◌, ◌∷◌, ◌⊎◌, ℕ, List, [], length, OnOk, IfOk, IfErr};
+ghost use Rattle.std.specs.Prelude.{◌≡◌, ◌≤◌, ◌++◌, ◌∷◌, ◌⊎◌, ℕ, List, [], length, OnOk, IfOk, IfErr, Ok, Err};
 ghost use Rattle.std.specs.Str.{chars};
 ghost use Rattle.go_lexer.specs.Lexing.{cut_string, cut_comment, fault_at, place, paid, paid_if, owed_after, owes_at};
 ghost use Rattle.go_lexer.specs.Lexing.{finish, with_front, lexed_text, lexed_source, LexesAs};
-ghost use Rattle.go_lexer.specs.TokenGrammar.{IsLexed, IsFirstFault};
+ghost use Rattle.go_lexer.specs.FaultGrammar.{IsFirstFault};
+ghost use Rattle.go_lexer.specs.TokenGrammar.{IsLexed};
 ghost use Rattle.go_lexer.specs.declared.token_kinds.Token.{Token};
 ghost use Rattle.go_lexer.specs.declared.token_kinds.LexFault.{LexFault};
 ghost use Rattle.go_lexer.specs.declared.lexing.TheConstants.{SOURCE_LIMIT};
@@ -186,8 +187,9 @@ pub fn tokens(alloc: Global, src: &[u8]) -> Result<Vec<Token>, LexFault>
     ensures found { IfOk result (λ found. IsLexed src.now found.items) }
     ensures only { (items : List Token) → IsLexed src.now items → LexesAs (λ found. found.items) result (Ok items) }
 
-    // Any other fault is the first one.
+    // Any other fault is the first one, and the first one is answered, unless memory runs out.
     ensures fault { IfErr result (λ f. (f ≡ LexFault.OutOfMemory) ⊎ IsFirstFault src.now f) }
+    ensures met { (f : LexFault) → IsFirstFault src.now f → LexesAs (λ found. found.items) result (Err f) }
     ensures exact { LexesAs (λ found. found.items) result (lexed_source src.now) }
 {
     read_tokens(alloc, src)

@@ -1,12 +1,14 @@
 //! A source with its tokens.
 
-ghost use Rattle.std.specs.Prelude.{◌≡◌, ◌≢◌, ◌≤◌, ◌<◌, ◌⊎◌, ℕ, List, Ok, length, IfOk, IfErr};
+ghost use Rattle.std.specs.Prelude.{◌≡◌, ◌≢◌, ◌≤◌, ◌<◌, ◌⊎◌, ℕ, List, Ok, Err, length, IfOk, IfErr};
 ghost use Rattle.std.specs.List.{All};
 ghost use Rattle.go_lexer.specs.Lexing.{LexesAs, lexed_source};
-ghost use Rattle.go_lexer.specs.TokenGrammar.{IsLexed, IsFirstFault};
+ghost use Rattle.go_lexer.specs.FaultGrammar.{IsFirstFault};
+ghost use Rattle.go_lexer.specs.TokenGrammar.{IsLexed};
 ghost use Rattle.go_lexer.specs.TokenTexts.{IsTokenOf, Rise, bytes_at};
 ghost use Rattle.go_lexer.specs.declared.token_kinds.Token.{Token};
 ghost use Rattle.go_lexer.specs.declared.token_kinds.TokenKind.TheVariants.{Inserted};
+ghost use Rattle.go_lexer.specs.declared.token_kinds.LexFault.{LexFault};
 ghost use Rattle.go_lexer.specs.declared.token_kinds.LexFault.TheVariants as fault;
 ghost use Rattle.go_lexer.specs.declared.lexing.TheConstants.{SOURCE_LIMIT};
 
@@ -68,6 +70,7 @@ pub fn lex(alloc: Global, source: &[u8]) -> Result<SourceTokens<'_>, LexFault>
     ensures found { IfOk result (λ s. IsLexed source.now s.tokens) }
     ensures only { (items : List Token) → IsLexed source.now items → LexesAs (λ s. s.tokens) result (Ok items) }
     ensures fault { IfErr result (λ f. (f ≡ fault.OutOfMemory) ⊎ IsFirstFault source.now f) }
+    ensures met { (f : LexFault) → IsFirstFault source.now f → LexesAs (λ s. s.tokens) result (Err f) }
     ensures exact { LexesAs (λ s. s.tokens) result (lexed_source source.now) }
 {
     let tokens = tokens(alloc, source)?;
