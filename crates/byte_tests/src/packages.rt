@@ -6,7 +6,7 @@ ghost use Rattle.type_terms.specs.Trees.{predeclared};
 ghost use Rattle.environments.specs.Packages.{PackageStands};
 
 use code_tables::Basic;
-use environments::{Env, EnvError, NoDeps, Over, Package};
+use environments::{Env, EnvError, Given, NoDeps, Over, Package};
 use go_values::{Bytes, Pos, QName};
 use std::alloc::{AllocError, Global};
 use std::test::Fail;
@@ -32,7 +32,11 @@ fn package_of(alloc: Global, basic: Basic, ty: NodeId, arena: &Arena) -> Result<
 }
 
 /// The declaration of an environment for a name; none where it has nothing for it.
-fn found_by<E: Env>(env: &mut E, q: &QName, arena: &mut Arena) -> Result<Option<DeclNode>, EnvError>
+fn found_by<'a, E: Env<'a>>(
+    env: &mut E,
+    q: &QName,
+    arena: &mut Arena,
+) -> Result<Option<Given<'a>>, EnvError>
     requires { E.stands env.old arena.old.nodes }
     ensures stands { E.stands env.new arena.new.nodes }
 {
@@ -44,7 +48,11 @@ fn found_by<E: Env>(env: &mut E, q: &QName, arena: &mut Arena) -> Result<Option<
 }
 
 /// The same of a package over no dependencies.
-fn found_over(whole: &Package, q: &QName, arena: &mut Arena) -> Result<Option<DeclNode>, EnvError>
+fn found_over<'a>(
+    whole: &'a Package,
+    q: &QName,
+    arena: &mut Arena,
+) -> Result<Option<Given<'a>>, EnvError>
     requires { PackageStands arena.old.nodes whole.now }
 {
     let mut nothing = NoDeps;

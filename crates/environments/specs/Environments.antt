@@ -7,6 +7,8 @@ use Rattle.type_terms.specs.declared.declarations.DeclNode.{DeclNode}
 use Rattle.type_terms.specs.Trees.{Tree}
 use Rattle.type_terms.specs.Arenas.{Contents, AllBelow}
 use Rattle.type_terms.specs.Declarations.{Decl, form_types, decl_nodes, decl_of}
+use Rattle.environments.specs.declared.given.Given.{Given}
+use Rattle.environments.specs.declared.given.Given.TheVariants.{Lent, Made}
 use Rattle.environments.specs.declared.declaring.EnvError.{EnvError}
 use Rattle.environments.specs.declared.declaring.EnvError.TheVariants.{Unknown, Damaged, TableFull, Nodes, OutOfMemory}
 
@@ -21,11 +23,15 @@ entry_types (Some (declared decl)) = form_types decl
 entry_types (Some (damaged fault read)) = read
 entry_types None = []
 
+abbrev pub given_decl : Given → DeclNode
+given_decl (Lent decl) = decl.now
+given_decl (Made decl) = decl
+
 -- What an answer for the name q says of the entry, of the arena and of the flag at exit. Each answer comes only so, and
 -- they exclude each other; OutOfMemory is free.
-abbrev pub Answers : Option Entry → QName → Contents → Option Bool → Result DeclNode EnvError → Type 0
-Answers entry q arena full (Ok node) = (entry ≡ Some (declared (decl_of arena.nodes node)))
-    × AllBelow (length arena.nodes) (decl_nodes node)
+abbrev pub Answers : Option Entry → QName → Contents → Option Bool → Result Given EnvError → Type 0
+Answers entry q arena full (Ok given) = (entry ≡ Some (declared (decl_of arena.nodes (given_decl given))))
+    × AllBelow (length arena.nodes) (decl_nodes (given_decl given))
 Answers entry q arena full (Err (Unknown name)) = (entry ≡ None) × (name ≡ q)
 Answers entry q arena full (Err (Damaged name fault)) = ((read : List Tree) × (entry ≡ Some (damaged fault read)))
     × (name ≡ q)

@@ -7,8 +7,9 @@ ghost use Rattle.type_terms.specs.Additions.{AddsOnly, Outgrows};
 ghost use Rattle.type_terms.specs.DeclarationRules.{IsProperDecl};
 ghost use Rattle.environments.specs.Environments.{Entry, declared, Answers, AsksOnly, entry_types};
 
+use crate::given::Given;
 use go_values::QName;
-use type_terms::{Arena, DeclNode};
+use type_terms::Arena;
 use wire_bytes::ByteFault;
 
 /// Why an environment gives no declaration.
@@ -25,9 +26,9 @@ pub enum EnvError {
     OutOfMemory,
 }
 
-/// What gives declarations for names. It means a finite map from names to a declaration or a fault, and a map from
+/// What gives declarations for names; those that it lends live for `'a`. It means a finite map from names to a declaration or a fault, and a map from
 /// paths of packages to their names, neither of which a call changes.
-pub trait Env {
+pub trait Env<'a> {
     /// What stands behind a name, where the arena has these nodes.
     ghost entries: { Self → List Node → Name → Option Entry };
 
@@ -48,7 +49,7 @@ pub trait Env {
 
     /// The declaration of a name, as nodes of the arena. `Nodes` comes only where the nodes at entry and what the entry
     /// opens are more distinct trees than the arena's limit.
-    fn declare(&mut self, q: &QName, arena: &mut Arena) -> Result<DeclNode, EnvError>
+    fn declare(&mut self, q: &QName, arena: &mut Arena) -> Result<Given<'a>, EnvError>
         requires stands { stands self.old arena.old.nodes }
         ensures answer { Answers (entries self.old arena.old.nodes q.now) q.now arena.new (full self.new) result }
         ensures entries { entries self.new arena.new.nodes ≡ entries self.old arena.old.nodes }
@@ -79,7 +80,7 @@ pub trait Env {
 #[derive(Clone, Copy, Debug)]
 pub struct NoDeps;
 
-impl Env for NoDeps {
+impl<'a> Env<'a> for NoDeps {
     ghost use Rattle.std.specs.Prelude.{[], None, refl};
     ghost use Rattle.environments.specs.EntryLaws.{no_entry};
 
@@ -95,7 +96,7 @@ impl Env for NoDeps {
 
     ghost full = { λ env. None };
 
-    fn declare(&mut self, q: &QName, _arena: &mut Arena) -> Result<DeclNode, EnvError> {
+    fn declare(&mut self, q: &QName, _arena: &mut Arena) -> Result<Given<'a>, EnvError> {
         Err(unknown(q))
     }
 

@@ -4,6 +4,7 @@
 
 mod declaring;
 mod exported;
+mod given;
 mod laws;
 mod mentions;
 mod overlay;
@@ -11,6 +12,7 @@ mod packages;
 
 pub use declaring::{Env, EnvError, NoDeps};
 pub use exported::is_exported;
+pub use given::Given;
 pub use laws::{
     reach_is_idempotent, reach_is_least, reach_is_monotone, references_follow_the_parts,
 };

@@ -2,6 +2,7 @@ ghost use Rattle.std.specs.Prelude.{◌≡◌, ◌⊎◌, None, Some, IfOk, IfEr
 ghost use Rattle.environments.specs.Packages.{IsRising, name_of, package_decl};
 
 use crate::declaring::{Env, EnvError, unknown};
+use crate::given::Given;
 use crate::packages::Package;
 use go_values::QName;
 use type_terms::{Arena, DeclNode};
@@ -9,12 +10,12 @@ use type_terms::{Arena, DeclNode};
 /// A package over an environment: names of the package's own path are the package's, and all others the
 /// environment's.
 #[derive(Drop)]
-pub struct Over<'a, E: Env> {
+pub struct Over<'a, 'b, E: Env<'a>> {
     pub package: &'a Package,
-    pub base: &'a mut E,
+    pub base: &'b mut E,
 }
 
-impl<E: Env> Env for Over<'_, E> {
+impl<'a, 'b, E: Env<'a>> Env<'a> for Over<'a, 'b, E> {
     ghost use Rattle.std.specs.Prelude.{◌++◌, Some, nat_eq, cond};
     ghost use Rattle.std.specs.Cmp.Lexicographic.{pointwise};
     ghost use Rattle.environments.specs.Packages.{PackageStands, package_entry, package_names, over_entries};
@@ -35,9 +36,9 @@ impl<E: Env> Env for Over<'_, E> {
 
     ghost full = { λ over. E.full over.base.now };
 
-    fn declare(&mut self, q: &QName, arena: &mut Arena) -> Result<DeclNode, EnvError> {
+    fn declare(&mut self, q: &QName, arena: &mut Arena) -> Result<Given<'a>, EnvError> {
         if q.path == self.package.path {
-            own(self.package, q)
+            Ok(Given::Lent(own(self.package, q)?))
         } else {
             self.base.declare(q, arena)
         }
@@ -68,18 +69,15 @@ impl<E: Env> Env for Over<'_, E> {
         ) };
 }
 
-/// A copy of the declaration that the package has for a name.
-fn own(owner: &Package, q: &QName) -> Result<DeclNode, EnvError>
+/// The declaration that the package has for a name.
+fn own<'a>(owner: &'a Package, q: &QName) -> Result<&'a DeclNode, EnvError>
     requires sorted { IsRising name_of owner.now.decls.items }
-    ensures found { IfOk result (λ decl. package_decl owner.now.decls.items q.now.name ≡ Some decl) }
+    ensures found { IfOk result (λ decl. package_decl owner.now.decls.items q.now.name ≡ Some decl.now) }
     ensures missing { IfErr result (λ error. (error ≡ EnvError.OutOfMemory)
         ⊎ ((error ≡ EnvError.Unknown q.now) × (package_decl owner.now.decls.items q.now.name ≡ None))) }
 {
-    let Some(decl) = owner.decl(q.name.as_slice()) else {
-        return Err(unknown(q));
-    };
-    let Ok(copy) = decl.clone() else {
-        return Err(EnvError::OutOfMemory);
-    };
-    Ok(copy)
+    match owner.decl(q.name.as_slice()) {
+        Some(decl) => Ok(decl),
+        None => Err(unknown(q)),
+    }
 }
