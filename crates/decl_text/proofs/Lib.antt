@@ -7,6 +7,7 @@ mod JoinedLemmas
 mod Fused
 mod RetypeLemmas
 mod DeclFormLemmas
+mod MentionLemmas
 mod NodeFinishLemmas
 mod TaskLemmas
 mod DeclTextLemmas

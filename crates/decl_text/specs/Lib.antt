@@ -5,6 +5,7 @@ pub mod TypeText
 pub mod Walks
 pub mod Numbers
 pub mod DeclText
+pub mod Mentions
 pub mod NodeNumbers
 pub mod PieceText
 pub mod Referring
