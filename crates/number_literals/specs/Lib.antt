@@ -1,0 +1,3 @@
+pub mod PlaceValues
+pub mod Wholes
+pub mod Reading
