@@ -4,3 +4,8 @@ pub mod EntryLaws
 pub mod Exported
 pub mod References
 pub mod ReferenceLaws
+pub mod ReferenceTasks
+pub mod Roles
+pub mod PackageLists
+pub mod PackageListLaws
+pub mod PackageLaws

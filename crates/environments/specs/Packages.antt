@@ -111,6 +111,26 @@ pub record PackageStands (nodes : List Node) (whole : Package) : Type 0 where
   pub files : All IsSourceFile whole.files.items
   pub decls : DeclsStand nodes whole.path whole.decls.items
 
+-- A package that is meant, of trees and no nodes.
+pub record Meant : Type 0 where
+  pub path : Text
+  pub name : Text
+  pub imports : List Text
+  pub decls : List (Text × Decl)
+  pub files : List FileInfo
+
+abbrev pub meant_decls : List Node → List Named → List (Text × Decl)
+meant_decls nodes decls = map (λ named. (named.0, decl_of nodes named.1)) decls
+
+abbrev pub meant : List Node → Package → Meant
+meant nodes whole = record {
+  path = whole.path;
+  name = whole.name;
+  imports = whole.imports.items;
+  decls = meant_decls nodes whole.decls.items;
+  files = whole.files.items;
+}
+
 -- names of the package's path are the package's, and all others the base's
 abbrev pub over_entries : Text → List Named → List Node → (QName → Option Entry) → QName → Option Entry
 over_entries path decls nodes base q = cond (pointwise nat_eq q.path path) (package_entry nodes decls q.name) (base q)

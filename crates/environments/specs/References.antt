@@ -75,6 +75,14 @@ references decl = flat_map tree_references (form_types decl)
 abbrev pub reference_names : Decl → List QName
 reference_names decl = map (λ reference. reference.name) (references decl)
 
+-- A list of references, each once in the order of their first mention, behind those that were seen before.
+pub data IsFirstMentions : List Reference → List Reference → List Reference → Type 0 where
+  all_seen : (seen : List Reference) → IsFirstMentions seen [] seen
+  again : (seen : List Reference) (next : Reference) (rest all : List Reference) → Contains seen next
+      → IsFirstMentions seen rest all → IsFirstMentions seen (next ∷ rest) all
+  first : (seen : List Reference) (next : Reference) (rest all : List Reference) → (Contains seen next → ⊥)
+      → IsFirstMentions (seen ++ next ∷ []) rest all → IsFirstMentions seen (next ∷ rest) all
+
 -- the names that the declaration behind a name refers to; none where nothing stands there, or a fault
 abbrev pub entry_names : Option Entry → List QName
 entry_names (Some (declared decl)) = reference_names decl

@@ -26,8 +26,8 @@ pub enum EnvError {
     OutOfMemory,
 }
 
-/// What gives declarations for names; those that it lends live for `'a`. It means a finite map from names to a declaration or a fault, and a map from
-/// paths of packages to their names, neither of which a call changes.
+/// What gives declarations for names; those that it lends live for `'a`. It means a finite map from names to a
+/// declaration or a fault, and a map from paths of packages to their names, neither of which a call changes.
 pub trait Env<'a> {
     /// What stands behind a name, where the arena has these nodes.
     ghost entries: { Self → List Node → Name → Option Entry };

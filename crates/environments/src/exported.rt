@@ -1,5 +1,5 @@
 ghost use Rattle.std.specs.Prelude.{◌≡◌, ◌↔◌, IsTrue};
-ghost use Rattle.environments.specs.Exported.{IsExported, StartsUpper, valid_front};
+ghost use Rattle.environments.specs.Exported.{IsExported, StartsUpper, valid_front, starts_upper, exported};
 ghost use Rattle.std.specs.Str.{chars};
 
 use std::str;
@@ -8,13 +8,15 @@ use unicode::properties::GeneralCategory;
 /// Whether a name is exported: it begins with the UTF-8 spelling of an upper case letter (the Go specification,
 /// "Exported identifiers"). Takes no memory; costs one pass over the name.
 pub fn is_exported(name: &[u8]) -> bool
-    ensures { IsTrue result ↔ IsExported name.now }
+    ensures meant { IsTrue result ↔ IsExported name.now }
+    ensures tested { result ≡ exported name.now }
 {
     starts_upper(valid_front(name))
 }
 
 fn starts_upper(text: &str) -> bool
-    ensures { IsTrue result ↔ StartsUpper (chars text.now) }
+    ensures meant { IsTrue result ↔ StartsUpper (chars text.now) }
+    ensures tested { result ≡ starts_upper (chars text.now) }
 {
     match text.chars().next() {
         Some(c) => matches!(

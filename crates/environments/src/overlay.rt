@@ -70,7 +70,7 @@ impl<'a, 'b, E: Env<'a>> Env<'a> for Over<'a, 'b, E> {
 }
 
 /// The declaration that the package has for a name.
-fn own<'a>(owner: &'a Package, q: &QName) -> Result<&'a DeclNode, EnvError>
+pub(crate) fn own<'a>(owner: &'a Package, q: &QName) -> Result<&'a DeclNode, EnvError>
     requires sorted { IsRising name_of owner.now.decls.items }
     ensures found { IfOk result (λ decl. package_decl owner.now.decls.items q.now.name ≡ Some decl.now) }
     ensures missing { IfErr result (λ error. (error ≡ EnvError.OutOfMemory)

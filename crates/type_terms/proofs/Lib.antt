@@ -1,2 +1,3 @@
 pub mod NodeEqualityLemmas
 pub mod InsertionLemmas
+pub mod HolderLemmas

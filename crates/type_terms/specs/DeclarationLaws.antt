@@ -1,5 +1,6 @@
 -- A declaration means the same where its types do.
-use Rattle.std.proofs.Common.{◌≡◌, ◌<◌, List, [], ◌∷◌, ◌++◌, map, length, ap}
+use Rattle.std.proofs.Common.{◌≡◌, ◌<◌, List, [], ◌∷◌, ◌++◌, map, length, refl, ap, sym, ◌∙◌}
+use Rattle.std.proofs.lemmas.List.{map-append}
 use Rattle.std.specs.List.{flat_map, AllByRecursion}
 use Rattle.go_values.specs.declared.positions.Pos.{Pos}
 use Rattle.type_terms.specs.declared.descriptors.Node.{Node}
@@ -11,9 +12,29 @@ use Rattle.type_terms.specs.Arenas.{AllBelow}
 use Rattle.type_terms.specs.Declarations.{ReceiverOf, Form, var_of, function_of, constant_of, defined_of, renamed_of}
 use Rattle.type_terms.specs.Declarations.{type_parameter_of, receiver_map, receiver_types, form_map, form_types}
 use Rattle.type_terms.specs.Declarations.{decl_form, decl_nodes, decl_of}
-use Rattle.type_terms.specs.Replaced.{all_left, all_right, map_agrees}
-use Rattle.type_terms.specs.ShapeLaws.{Agree, type_agrees, sig_agrees}
+use Rattle.type_terms.specs.Replaced.{all_left, all_right, map_agrees, parts_of_map}
+use Rattle.type_terms.specs.ShapeLaws.{Agree, type_agrees, sig_agrees, sig_types_map}
 use Rattle.type_terms.specs.Denoted.{tree_stays, all_weaker}
+
+-- the types of a declaration whose types are replaced
+module _ {R R' : Type 0} (f : R → R') (P S : Type 0) where
+  receiver_types_map : (x : ReceiverOf P S R)
+      → receiver_types (receiver_map (λ (x : P). x) (λ (x : S). x) f x) ≡ map f (receiver_types x)
+  receiver_types_map x = ap (λ rest. f x.recv.type ∷ rest)
+      (sig_types_map (λ (x : P). x) (λ (x : S). x) (λ (x : S). x) f x.sig)
+
+  pub form_types_map : (form : Form P S R)
+      → form_types (form_map (λ (x : P). x) (λ (x : S). x) f form) ≡ map f (form_types form)
+  form_types_map (function_of pos tparams sig) =
+      ap (λ rest. map f tparams ++ rest) (sig_types_map (λ (x : P). x) (λ (x : S). x) (λ (x : S). x) f sig)
+      ∙ sym (map-append f tparams (sig_types sig))
+  form_types_map (defined_of pos tparams underlying methods) =
+      ap (λ rest. map f tparams ++ f underlying ∷ rest)
+      (parts_of_map (receiver_map (λ (x : P). x) (λ (x : S). x) f) f receiver_types receiver_types receiver_types_map
+      methods)
+      ∙ sym (map-append f tparams (underlying ∷ flat_map receiver_types methods))
+  form_types_map (renamed_of pos tparams type) = sym (map-append f tparams (type ∷ []))
+  form_types_map _ = refl
 
 -- Two replacements of the types that agree on those of a declaration give one declaration.
 module _ {R R' : Type 0} (f g : R → R') (P S : Type 0) where

@@ -8,7 +8,7 @@ use Rattle.type_terms.specs.Trees.{no_params, params, Fields, no_fields, fields,
 use Rattle.type_terms.specs.Trees.{no_terms, terms, Level, level_of, type_list, param_list, field_list, method_list}
 use Rattle.type_terms.specs.Trees.{term_list, types_of, params_of, fields_of, methods_of, terms_of, tree_of}
 
-types_back : (xs : List Tree) → type_list (types_of xs) ≡ xs
+pub types_back : (xs : List Tree) → type_list (types_of xs) ≡ xs
 types_back [] = refl
 types_back (x ∷ xs) = ap (λ rest. x ∷ rest) (types_back xs)
 

@@ -8,6 +8,7 @@ mod laws;
 mod lists;
 mod literals;
 mod node_numbers;
+mod parts;
 mod shared_nodes;
 
 pub use declarations::{DeclNode, Method};
@@ -20,4 +21,5 @@ pub use laws::{
 pub use lists::{Fields, MethodList, Methods, Nodes, Params, Terms};
 pub use literals::{Dir, Field, IMethod, Origin, ParamNode, Sig, Term};
 pub use node_numbers::NodeId;
+pub use parts::{push_children, push_decl};
 pub use shared_nodes::{Arena, ArenaError, MAX_NODES};
