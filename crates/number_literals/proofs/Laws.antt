@@ -173,10 +173,10 @@ pub is_fault : (cs : List ℕ) (f : ValueFault) → Err f ≡ answer (whole_of c
 is_fault cs f e = fault_by cs f (whole_of cs) refl (sym e)
 
 -- tokens
-abbrev low : ℕ → Bool
+abbrev pub low : ℕ → Bool
 low c = nat_lt c 128
 
-digit_low : (base c : ℕ) → base ≤ 16 → digit_value c < base → low c ≡ true
+pub digit_low : (base c : ℕ) → base ≤ 16 → digit_value c < base → low c ≡ true
 digit_low base c most h = sixteen c (omega arith)
   where
     sixteen : (c : ℕ) → digit_value c < 16 → low c ≡ true
@@ -191,7 +191,7 @@ low_led base cs most h = each_led base low (λ c k. digit_low base c most k) ref
 low_letter : (c small large : ℕ) → low small ≡ true → low large ≡ true → IsLetter small large c → low c ≡ true
 low_letter c small large s l h = letter_at c small large (λ x. low x ≡ true) s l h
 
-ascii : (cs : List ℕ) → Each low cs → encode_utf8_all cs ≡ cs
+pub ascii : (cs : List ℕ) → Each low cs → encode_utf8_all cs ≡ cs
 ascii [] h = refl
 ascii (c ∷ cs) h =
     let small : c < 128 = grind (arith, nat_tests) in

@@ -1,2 +1,4 @@
 pub mod Sums
 pub mod Laws
+pub mod RuneLaws
+pub mod RuneTokens

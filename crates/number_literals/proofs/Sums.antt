@@ -18,7 +18,7 @@ abbrev pub in_run : ℕ → ℕ → Bool
 in_run base c = nat_lt (digit_value c) base || c == underscore
 
 -- the sum with one digit more in front
-longer : (base v d k s : ℕ) → (v * base + d) * base ^ k + s ≡ v * base ^ suc k + (d * base ^ k + s)
+pub longer : (base v d k s : ℕ) → (v * base + d) * base ^ k + s ≡ v * base ^ suc k + (d * base ^ k + s)
 longer base v d k s =
     let a : (v * base + d) * base ^ k ≡ v * base * base ^ k + d * base ^ k = add-mul (v * base) d (base ^ k) in
     let b : v * base ^ suc k ≡ v * (base * base ^ k) = ap (λ x. v * x) (pow-succ' base k) in

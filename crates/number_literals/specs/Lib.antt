@@ -1,3 +1,5 @@
 pub mod PlaceValues
 pub mod Wholes
 pub mod Reading
+pub mod Runes
+pub mod RuneReading
