@@ -1,6 +1,6 @@
 -- The value of an integer literal, or none, for all bytes; and how the code reads digits.
-use Rattle.std.specs.Prelude.{◌+◌, ◌*◌, ◌^◌, ◌==◌, ◌||◌, nat_lt, ℕ, Bool, List, [], ◌∷◌, if◌then◌else◌, Option, Some, None}
-use Rattle.std.specs.Prelude.{Result, Ok, Err, option_and_then}
+use Rattle.std.specs.Prelude.{◌+◌, ◌*◌, ◌^◌, ◌==◌, ◌||◌, nat_lt, ℕ, Bool, List, [], ◌∷◌, if◌then◌else◌, Option, Some}
+use Rattle.std.specs.Prelude.{None, Result, Ok, Err, option_and_then}
 use Rattle.std.specs.Char.{digit_value}
 use Rattle.go_lexer.specs.Characters.{underscore}
 use Rattle.go_lexer.specs.Numbers.{is_digits, is_led_digits, leads_with_zero}

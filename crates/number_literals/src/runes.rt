@@ -4,8 +4,9 @@ ghost use Rattle.go_lexer.specs.Escapes.{is_code_point};
 ghost use Rattle.go_lexer.specs.TokenTexts.{IsTokenOf, bytes_at};
 ghost use Rattle.go_lexer.specs.declared.token_kinds.Token.{Token};
 ghost use Rattle.go_lexer.specs.declared.token_kinds.TokenKind.TheVariants.{Rune};
-ghost use Rattle.number_literals.specs.RuneReading.{fixed_of, byte_of, code_point_of, simple_of, numbered_of, escape_of};
-ghost use Rattle.number_literals.specs.RuneReading.{one_of, plain_of_one, character_of, inside_of, before_quote, rune_of};
+ghost use Rattle.number_literals.specs.RuneReading.{fixed_of, byte_of, code_point_of, simple_of, numbered_of};
+ghost use Rattle.number_literals.specs.RuneReading.{escape_of, one_of, plain_of_one, character_of, inside_of};
+ghost use Rattle.number_literals.specs.RuneReading.{before_quote, rune_of};
 ghost use Rattle.number_literals.specs.Runes.{HasRune};
 
 /// The value of so many digits of a base.

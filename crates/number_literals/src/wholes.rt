@@ -3,7 +3,8 @@ ghost use Rattle.go_lexer.specs.Numbers.{leads_with_zero};
 ghost use Rattle.go_lexer.specs.TokenTexts.{IsTokenOf, bytes_at};
 ghost use Rattle.go_lexer.specs.declared.token_kinds.Token.{Token};
 ghost use Rattle.go_lexer.specs.declared.token_kinds.TokenKind.TheVariants.{Whole};
-ghost use Rattle.number_literals.specs.Reading.{kept, answer, plain_of, led_of, prefix_radix, by_radix, zero_of, whole_of};
+ghost use Rattle.number_literals.specs.Reading.{kept, answer, plain_of, led_of, prefix_radix, by_radix, zero_of};
+ghost use Rattle.number_literals.specs.Reading.{whole_of};
 ghost use Rattle.number_literals.specs.Wholes.{HasWhole, IsWholeFault};
 
 use crate::digits::{is_digits, is_led_digits, read};
