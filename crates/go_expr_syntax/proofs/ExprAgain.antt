@@ -167,30 +167,30 @@ lift l (suc i) m ts x rest h = lifted l i m x rest (level_by i (expr_of i) l ts)
 least : (i m j s : ℕ) → suc s ≡ suc i - m → j ≤ i → min s (i - j) ≡ suc i - suc (max m j)
 least i m j s e f = omega arith
 
-behind : (l i m j s : ℕ) (x : Operand) (op : Operator) (y : Operand) (rest : List Symbol) (r q : Reply Sized) → m ≤ suc i → suc s ≡ suc i - m → Agrees i j (y, i - j) rest q
-    → r ≡ (q >>= λ z. climb (suc l) (expr_of i l) (binary op x z.0.0, min s z.0.1) z.1) → Climbing l (suc i) (suc (max m j)) (binary op x y) rest r
-behind l i m j s x op y rest r (Ok z) le e h same =
-    on_it i (suc (max m j)) (binary op x y) rest r (let f : j ≤ i = h.2 in omega arith)
-    (same ∙ ap (λ (w : Sized). climb (suc l) (expr_of i l) (binary op x w.0, min s w.1) z.1) h.0
-    ∙ ap (λ (k : ℕ). climb (suc l) (expr_of i l) (binary op x y, k) z.1) (least i m j s e h.2)
-    ∙ ap (λ (us : List Symbol). climb (suc l) (expr_of i l) (binary op x y, suc i - suc (max m j)) us) h.1)
-behind l i m j s x op y rest r (Err (Deep k began)) le e h same = over (suc i) (suc (max m j)) (binary op x y) rest r k began (let f : i < j = h in omega arith) same
-behind l i m j s x op y rest r (Err (Unexpected k)) le e h same = absurd h
-behind l i m j s x op y rest r (Err (DotImport k)) le e h same = absurd h
-behind l i m j s x op y rest r (Err (Call k at)) le e h same = absurd h
+behind : (l i m j s : ℕ) (x : Operand) (op : Operator) (p : ℕ) (y : Operand) (rest : List Symbol) (r q : Reply Sized) → m ≤ suc i → suc s ≡ suc i - m → Agrees i j (y, i - j) rest q
+    → r ≡ (q >>= λ z. climb (suc l) (expr_of i l) (binary op p x z.0.0, min s z.0.1) z.1) → Climbing l (suc i) (suc (max m j)) (binary op p x y) rest r
+behind l i m j s x op p y rest r (Ok z) le e h same =
+    on_it i (suc (max m j)) (binary op p x y) rest r (let f : j ≤ i = h.2 in omega arith)
+    (same ∙ ap (λ (w : Sized). climb (suc l) (expr_of i l) (binary op p x w.0, min s w.1) z.1) h.0
+    ∙ ap (λ (k : ℕ). climb (suc l) (expr_of i l) (binary op p x y, k) z.1) (least i m j s e h.2)
+    ∙ ap (λ (us : List Symbol). climb (suc l) (expr_of i l) (binary op p x y, suc i - suc (max m j)) us) h.1)
+behind l i m j s x op p y rest r (Err (Deep k began)) le e h same = over (suc i) (suc (max m j)) (binary op p x y) rest r k began (let f : i < j = h in omega arith) same
+behind l i m j s x op p y rest r (Err (Unexpected k)) le e h same = absurd h
+behind l i m j s x op p y rest r (Err (DotImport k)) le e h same = absurd h
+behind l i m j s x op p y rest r (Err (Call k at)) le e h same = absurd h
 
 turned : (l i m j spare : ℕ) (x : Operand) (k : Symbol) (op : Operator) (us : List Symbol) (y : Operand) (rest : List Symbol) (r : Reply Sized) → m ≤ suc i → spare ≡ suc i - m → Agrees i j (y, i - j) rest (expr_of i l us)
-    → r ≡ climb_on spare (climb (suc l) (expr_of i l)) (expr_of i l) x (k ∷ us) op us → Climbing l (suc i) (suc (max m j)) (binary op x y) rest r
-turned l i m j zero x k op us y rest r le e h same = over (suc i) (suc (max m j)) (binary op x y) rest r (length (k ∷ us)) (symbol_start k) (omega arith) same
-turned l i m j (suc s) x k op us y rest r le e h same = behind l i m j s x op y rest r (expr_of i l us) le e h same
+    → r ≡ climb_on spare (climb (suc l) (expr_of i l)) (expr_of i l) x (k ∷ us) op us → Climbing l (suc i) (suc (max m j)) (binary op (symbol_start k) x y) rest r
+turned l i m j zero x k op us y rest r le e h same = over (suc i) (suc (max m j)) (binary op (symbol_start k) x y) rest r (length (k ∷ us)) (symbol_start k) (omega arith) same
+turned l i m j (suc s) x k op us y rest r le e h same = behind l i m j s x op (symbol_start k) y rest r (expr_of i l us) le e h same
 
 climbed : (l n m j : ℕ) (x : Operand) (k : Symbol) (op : Operator) (us : List Symbol) (y : Operand) (rest : List Symbol) (r : Reply Sized) → Climbing l n m x (k ∷ us) r → between_of k ≡ Some op → level op ≡ suc l → AgreesAll l j us y rest
-    → Climbing l n (suc (max m j)) (binary op x y) rest r
+    → Climbing l n (suc (max m j)) (binary op (symbol_start k) x y) rest r
 climbed l n m j x k op us y rest r (on_it i m' x' rest' r' le e) is of h =
     turned l i m j (suc i - m) x k op us y rest r le refl (h i)
     (e ∙ climb_is (suc l) (expr_of i l) (x, suc i - m) (k ∷ us)
     ∙ ap (λ (o : Reply Operator). pick o (climb_on (suc i - m) (climb (suc l) (expr_of i l)) (expr_of i l) x (k ∷ us)) (Ok ((x, suc i - m), k ∷ us))) (an_operator l k us op is of))
-climbed l n m j x k op us y rest r (over n' m' x' rest' r' d began less e) is of h = over n (suc (max m j)) (binary op x y) rest r d began (omega arith) e
+climbed l n m j x k op us y rest r (over n' m' x' rest' r' d began less e) is of h = over n (suc (max m j)) (binary op (symbol_start k) x y) rest r d began (omega arith) e
 
 -- ---- expressions
 

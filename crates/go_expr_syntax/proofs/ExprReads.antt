@@ -4,7 +4,7 @@ use Rattle.std.proofs.lemmas.Bool.{eqb-true}
 use Rattle.go_expr_syntax.specs.declared.symbols.Operator.{Operator}
 use Rattle.go_expr_syntax.specs.declared.symbols.Symbol.{Symbol}
 use Rattle.go_expr_syntax.specs.declared.expressions.Operand.{Operand}
-use Rattle.go_expr_syntax.specs.Reading.{Reply, ◌>>=◌, unexpected, too_deep}
+use Rattle.go_expr_syntax.specs.Reading.{Reply, ◌>>=◌, symbol_start, start_of, unexpected, too_deep}
 use Rattle.go_expr_syntax.specs.Expressions as ex
 use Rattle.go_expr_syntax.specs.Expressions.{level, between_of, binary, IsExpr}
 use Rattle.go_expr_syntax.specs.Operands.{Sized, Reader, operator_if, operator_at, pick, climb_on, climb_by, climb_of, climb, level_by, begins_expr, expr_of}
@@ -17,7 +17,7 @@ use Rattle.go_expr_syntax.proofs.OperandReads.{ExprAt, some_expr, operand_reads}
 on_same : (spare : ℕ) (f g : Sized → List Symbol → Reply Sized) (inner : Reader) (x : Operand) (ts : List Symbol) (op : Operator) (us : List Symbol)
     → ((z : Sized) (vs : List Symbol) → z.1 < spare → f z vs ≡ g z vs) → climb_on spare f inner x ts op us ≡ climb_on spare g inner x ts op us
 on_same zero f g inner x ts op us h = refl
-on_same (suc spare) f g inner x ts op us h = bind_same (inner us) _ _ (λ y e. h (binary op x y.0.0, min spare y.0.1) y.1 (omega arith))
+on_same (suc spare) f g inner x ts op us h = bind_same (inner us) _ _ (λ y e. h (binary op (start_of ts) x y.0.0, min spare y.0.1) y.1 (omega arith))
 
 pick_same : {X : Type 0} (r : Reply Operator) (f g : Operator → List Symbol → Reply X) (other : Reply X) → ((op : Operator) (us : List Symbol) → f op us ≡ g op us) → pick r f other ≡ pick r g other
 pick_same (Ok z) f g other h = h z.0 z.1
@@ -73,12 +73,12 @@ on_reads : (l : ℕ) (inner : Reader) → ((us : List Symbol) → ReadsAt (ExprA
     → ((z : Sized) (us : List Symbol) → z.1 < spare → ReadsAt (Grown l z) (more z) us (more z us)) → ReadsAt (Grown l (x, spare)) p (k ∷ ts) (climb_on spare more inner x (k ∷ ts) op ts)
 on_reads l inner h more p x zero k ts op is same later = deep_next (Grown l (x, 0)) p k ts (grows l (x, 0)) same
 on_reads l inner h more p x (suc spare) k ts op is same later =
-    cons_reads (Grown l (x, suc spare)) p (λ us. inner us >>= λ y. more (binary op x y.0.0, min spare y.0.1) y.1) k ts (inner ts >>= λ y. more (binary op x y.0.0, min spare y.0.1) y.1) same
-    (bind_reads (ExprAt l) (Behind k (Grown l (x, suc spare))) inner (λ y us. more (binary op x y.0, min spare y.1) us) ts
-    (λ y. record { tokens = []; made = (binary op x y.0, 0); stands = λ tail us w vs v. (suc (max v.0 w.0), ex.joined l v.0 w.0 vs x k op us y.0 tail v.1 is.is is.of_level w.1) })
-    (λ y us o. as_reads (Grown l (binary op x y.0, min spare y.1)) (After (ExprAt l) (Behind k (Grown l (x, suc spare))) y) (more (binary op x y.0, min spare y.1)) us (more (binary op x y.0, min spare y.1) us)
+    cons_reads (Grown l (x, suc spare)) p (λ us. inner us >>= λ y. more (binary op (symbol_start k) x y.0.0, min spare y.0.1) y.1) k ts (inner ts >>= λ y. more (binary op (symbol_start k) x y.0.0, min spare y.0.1) y.1) same
+    (bind_reads (ExprAt l) (Behind k (Grown l (x, suc spare))) inner (λ y us. more (binary op (symbol_start k) x y.0, min spare y.1) us) ts
+    (λ y. record { tokens = []; made = (binary op (symbol_start k) x y.0, 0); stands = λ tail us w vs v. (suc (max v.0 w.0), ex.joined l v.0 w.0 vs x k op us y.0 tail v.1 is.is is.of_level w.1) })
+    (λ y us o. as_reads (Grown l (binary op (symbol_start k) x y.0, min spare y.1)) (After (ExprAt l) (Behind k (Grown l (x, suc spare))) y) (more (binary op (symbol_start k) x y.0, min spare y.1)) us (more (binary op (symbol_start k) x y.0, min spare y.1) us)
     (λ us' z rest g vs w ws v. g ws (suc (max v.0 w.0), ex.joined l v.0 w.0 ws x k op vs y.0 us' v.1 is.is is.of_level w.1))
-    (later (binary op x y.0, min spare y.1) us (omega arith)))
+    (later (binary op (symbol_start k) x y.0, min spare y.1) us (omega arith)))
     (inner ts) (h ts))
 
 climb_here : (l : ℕ) (inner : Reader) → ((us : List Symbol) → ReadsAt (ExprAt l) inner us (inner us)) → (x : Sized) (ts : List Symbol)

@@ -6,7 +6,7 @@ use Rattle.go_expr_syntax.specs.declared.faults.Fault.{Fault}
 use Rattle.go_expr_syntax.specs.declared.faults.Stop.{Stop}
 use Rattle.go_expr_syntax.specs.declared.faults.Stop.TheVariants as stop
 use Rattle.go_expr_syntax.specs.declared.expressions.Operand.{Operand}
-use Rattle.go_expr_syntax.specs.Reading.{Reply, too_deep, Fails}
+use Rattle.go_expr_syntax.specs.Reading.{Reply, start_of, too_deep, Fails}
 use Rattle.go_expr_syntax.specs.Expressions.{binary}
 use Rattle.go_expr_syntax.specs.Operands.{Sized, Reader, operator_at, climb_by, climb, level_by, no_expr, expr_of}
 use Rattle.go_expr_syntax.proofs.ExprReads.{climb_is}
@@ -38,12 +38,12 @@ climb_fails l inner x spare rest op after stop.OutOfMemory total e some h so = t
 climb_fails l inner x spare rest op after (stop.At f) total e some h so = climb_err l inner x spare rest op after f total e some h so
 
 pub climb_goes : (l : ℕ) (inner : Reader) (x : Operand) (spare : ℕ) (rest : List Symbol) (op : Operator) (after : List Symbol) (y : Sized) (next : List Symbol) (total : Reply Sized) → operator_at l rest ≡ Ok (op, after) → (spare ≡ 0 → ⊥)
-    → inner after ≡ Ok (y, next) → climb l inner (x, spare) rest ≡ total → climb l inner (binary op x y.0, min (spare - 1) y.1) next ≡ total
+    → inner after ≡ Ok (y, next) → climb l inner (x, spare) rest ≡ total → climb l inner (binary op (start_of rest) x y.0, min (spare - 1) y.1) next ≡ total
 climb_goes l inner x zero rest op after y next total e some h so = absurd (some refl)
 climb_goes l inner x (suc spare) rest op after y next total e some h so =
-    let here : climb_by l (climb l inner) inner (x, suc spare) rest ≡ climb l inner (binary op x y.0, min spare y.1) next = rw (e, h) refl in
+    let here : climb_by l (climb l inner) inner (x, suc spare) rest ≡ climb l inner (binary op (start_of rest) x y.0, min spare y.1) next = rw (e, h) refl in
     let less : suc spare - 1 ≡ spare = omega arith in
-    ap (λ (k : ℕ). climb l inner (binary op x y.0, min k y.1) next) less ∙ sym here ∙ sym (climb_is l inner (x, suc spare) rest) ∙ so
+    ap (λ (k : ℕ). climb l inner (binary op (start_of rest) x y.0, min k y.1) next) less ∙ sym here ∙ sym (climb_is l inner (x, suc spare) rest) ∙ so
 
 -- ---- the levels
 

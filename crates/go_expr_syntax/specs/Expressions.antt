@@ -2,7 +2,7 @@
 -- path of the tree.
 use Rattle.std.specs.Prelude.{◌≡◌, ℕ, suc, max, Bool, true, false, List, ◌∷◌, Option, Some, None}
 use Rattle.go_lexer.specs.declared.token_kinds.Token.{Token}
-use Rattle.go_expr_syntax.specs.Reading.{Quoted}
+use Rattle.go_expr_syntax.specs.Reading.{Quoted, symbol_start}
 use Rattle.go_expr_syntax.specs.declared.symbols.Operator.{Operator}
 use Rattle.go_expr_syntax.specs.declared.symbols.Operator.TheVariants as o
 use Rattle.go_expr_syntax.specs.declared.symbols.Symbol.{Symbol}
@@ -68,8 +68,9 @@ enclosed at y = record { expr = e.Paren y.expr at; at = at }
 abbrev pub unary : Operator → ℕ → Operand → Operand
 unary op at y = record { expr = e.Unary op y.expr at; at = at }
 
-abbrev pub binary : Operator → Operand → Operand → Operand
-binary op x y = record { expr = e.Binary op x.expr y.expr x.at; at = x.at }
+-- with the place of the operator
+abbrev pub binary : Operator → ℕ → Operand → Operand → Operand
+binary op at x y = record { expr = e.Binary op at x.expr y.expr x.at; at = x.at }
 
 -- ---- the grammar
 
@@ -96,4 +97,4 @@ pub data IsExpr : ℕ → ℕ → List Symbol → Operand → List Symbol → Ty
   joined : (l m n : ℕ) (ts : List Symbol) (x : Operand) (k : Symbol) (op : Operator) (us : List Symbol) (y : Operand)
       (rest : List Symbol)
       → IsExpr (suc l) m ts x (k ∷ us) → between_of k ≡ Some op → level op ≡ suc l → IsExpr l n us y rest
-      → IsExpr (suc l) (suc (max m n)) ts (binary op x y) rest
+      → IsExpr (suc l) (suc (max m n)) ts (binary op (symbol_start k) x y) rest

@@ -5,3 +5,4 @@ pub mod Expressions
 pub mod Operands
 pub mod Kinds
 pub mod TokenView
+pub mod PlainExprs

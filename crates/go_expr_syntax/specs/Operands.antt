@@ -9,7 +9,7 @@ use Rattle.go_expr_syntax.specs.declared.faults.Fault.{Fault}
 use Rattle.go_expr_syntax.specs.declared.faults.Fault.TheVariants.{Call}
 use Rattle.go_expr_syntax.specs.declared.tree.NameExpr.{NameExpr}
 use Rattle.go_expr_syntax.specs.declared.expressions.Operand.{Operand}
-use Rattle.go_expr_syntax.specs.Reading.{Reply, from_start, ◌>>=◌, unexpected, too_deep, past, peek, is_close_paren}
+use Rattle.go_expr_syntax.specs.Reading.{Reply, start_of, from_start, ◌>>=◌, unexpected, too_deep, past, peek, is_close_paren}
 use Rattle.go_expr_syntax.specs.Names.{dotted}
 use Rattle.go_expr_syntax.specs.Expressions.{level, is_unary, between_of, literal, constant, conversion, enclosed}
 use Rattle.go_expr_syntax.specs.Expressions.{unary}
@@ -99,7 +99,8 @@ pick (Err f) q other = other
 abbrev pub climb_on : ℕ → (Sized → List Symbol → Reply Sized) → Reader → Operand → List Symbol → Operator
     → List Symbol → Reply Sized
 climb_on zero more inner x ts op us = too_deep ts
-climb_on (suc spare) more inner x ts op us = inner us >>= λ y. more (binary op x y.0.0, min spare y.0.1) y.1
+climb_on (suc spare) more inner x ts op us = 
+    inner us >>= λ y. more (binary op (start_of ts) x y.0.0, min spare y.0.1) y.1
 
 abbrev pub climb_by : ℕ → (Sized → List Symbol → Reply Sized) → Reader → Sized → List Symbol → Reply Sized
 climb_by l more inner x ts = pick (operator_at l ts) (climb_on x.1 more inner x.0 ts) (Ok (x, ts))

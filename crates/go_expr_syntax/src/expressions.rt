@@ -139,8 +139,14 @@ fn unary(alloc: Global, op: Operator, at: u32, inside: Operand) -> Result<Operan
     })
 }
 
-fn binary(alloc: Global, op: Operator, left: Operand, right: Operand) -> Result<Operand, AllocError>
-    ensures { IfOk result (λ x. x ≡ binary op left right) }
+fn binary(
+    alloc: Global,
+    op: Operator,
+    op_at: u32,
+    left: Operand,
+    right: Operand,
+) -> Result<Operand, AllocError>
+    ensures { IfOk result (λ x. x ≡ binary op op_at left right) }
 {
     let at = left.at;
     let left = Boxed::new(alloc, left.expr)?;
@@ -148,6 +154,7 @@ fn binary(alloc: Global, op: Operator, left: Operand, right: Operand) -> Result<
     Ok(Operand {
         expr: Expr::Binary {
             op,
+            op_at,
             left,
             right,
             at,
@@ -305,7 +312,7 @@ fn operators(
             return Err(Stop::At(too_deep(rest)));
         }
         let ((right, other), next) = expression(alloc, after, level - 1, left)?;
-        found = binary(alloc, op, found, right)?;
+        found = binary(alloc, op, start(rest), found, right)?;
         spare = (spare - 1).min(other);
         rest = onward(next);
     }

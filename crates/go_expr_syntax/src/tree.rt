@@ -30,13 +30,16 @@ pub enum Expr {
         arg: Boxed<Expr>,
         at: u32,
     },
+    /// The operator stands where the expression begins.
     Unary {
         op: Operator,
         arg: Boxed<Expr>,
         at: u32,
     },
+    /// The operator stands at `op_at`.
     Binary {
         op: Operator,
+        op_at: u32,
         left: Boxed<Expr>,
         right: Boxed<Expr>,
         at: u32,

@@ -43,20 +43,21 @@ end_again : (x : Receiver) (us rest : List Symbol) → IsReceiverEnd us rest →
 end_again x us rest (f.closes c r) = refl
 end_again x us rest (f.closes_late s c r) = refl
 
-base_again : (name : Option Ident) (pointer : Bool) (base : Ident) (ts : List Symbol) (args : List Ident) (us rest : List Symbol) → IsArgs ts args us → IsReceiverEnd us rest → receiver_base name pointer base ts ≡ Ok (receiver name pointer base args, rest)
-base_again name pointer base ts args us rest a w = rw (args_again ts args us a (end_no_bracket us rest w)) (end_again (receiver name pointer base args) us rest w)
+base_again : (name : Option Ident) (pointer : Bool) (base : Ident) (at : ℕ) (ts : List Symbol) (args : List Ident) (us rest : List Symbol) → IsArgs ts args us → IsReceiverEnd us rest
+    → receiver_base name pointer base at ts ≡ Ok (receiver name pointer base args at, rest)
+base_again name pointer base at ts args us rest a w = rw (args_again ts args us a (end_no_bracket us rest w)) (end_again (receiver name pointer base args at) us rest w)
 
 -- a base alone is followed by no identifier and no star
-alone_again : (base : Ident) (ts : List Symbol) (args : List Ident) (us rest : List Symbol) → IsArgs ts args us → IsReceiverEnd us rest → receiver_at (t.Ident base ∷ ts) ≡ receiver_base None false base ts
+alone_again : (base : Ident) (ts : List Symbol) (args : List Ident) (us rest : List Symbol) → IsArgs ts args us → IsReceiverEnd us rest → receiver_at (t.Ident base ∷ ts) ≡ receiver_base None false base base.start ts
 alone_again base ts args us rest (f.no_args r) (f.closes c r') = refl
 alone_again base ts args us rest (f.no_args r) (f.closes_late s c r') = refl
 alone_again base ts args us rest (f.some_args o vs ns r s w) q = refl
 
 receiver_again : (ts : List Symbol) (x : Receiver) (rest : List Symbol) → IsReceiver ts x rest → receiver_at ts ≡ Ok (x, rest)
-receiver_again ts x rest (f.by_value base us args vs r a w) = alone_again base us args vs r a w ∙ base_again None false base us args vs r a w
-receiver_again ts x rest (f.by_pointer p base us args vs r a w) = base_again None true base us args vs r a w
-receiver_again ts x rest (f.named_value i base us args vs r a w) = base_again (Some i) false base us args vs r a w
-receiver_again ts x rest (f.named_pointer i p base us args vs r a w) = base_again (Some i) true base us args vs r a w
+receiver_again ts x rest (f.by_value base us args vs r a w) = alone_again base us args vs r a w ∙ base_again None false base base.start us args vs r a w
+receiver_again ts x rest (f.by_pointer p base us args vs r a w) = base_again None true base p us args vs r a w
+receiver_again ts x rest (f.named_value i base us args vs r a w) = base_again (Some i) false base i.start us args vs r a w
+receiver_again ts x rest (f.named_pointer i p base us args vs r a w) = base_again (Some i) true base i.start us args vs r a w
 
 -- ---- bodies
 

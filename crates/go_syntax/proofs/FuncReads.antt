@@ -7,7 +7,7 @@ use Rattle.go_syntax.specs.declared.tree.Receiver.{Receiver}
 use Rattle.go_syntax.specs.declared.tree.FuncDecl.{FuncDecl}
 use Rattle.go_type_syntax.specs.declared.tree.SigExpr.{SigExpr}
 use Rattle.go_syntax.specs.declared.tree.TParam.{TParam}
-use Rattle.go_expr_syntax.specs.Reading.{◌>>=◌, starts, is_comma, is_close_paren, is_open_paren, is_open_bracket, is_close_bracket, is_open_brace, is_close_brace, is_star, series_end, series}
+use Rattle.go_expr_syntax.specs.Reading.{Reply, ◌>>=◌, starts, is_comma, is_close_paren, is_open_paren, is_open_bracket, is_close_bracket, is_open_brace, is_close_brace, series_end, series}
 use Rattle.go_expr_syntax.specs.Names.{ident_at}
 use Rattle.go_type_syntax.specs.Grammar.{IsSig}
 use Rattle.go_type_syntax.specs.Params.{sig_at}
@@ -17,8 +17,8 @@ use Rattle.go_syntax.specs.Generics as g
 use Rattle.go_syntax.specs.Generics.{generic_at}
 use Rattle.go_syntax.specs.Functions as f
 use Rattle.go_syntax.specs.Functions.{receiver, function, IsIdents, IsArgs, IsReceiverEnd, IsReceiver, IsBody, IsFunc, idents, idents_at, args_at, receiver_close, receiver_end, receiver_base, receiver_pointer, receiver_first, receiver_at, body_close, body_by, body_at, func_sig, method_name, method_by, func_generic, func_name, func_at}
-use Rattle.go_expr_syntax.proofs.Viable.{next_is, ends_so, ReadsAt, Sample, Behind, Past, After, done_reads, like_reads, as_reads, cons_reads, past_reads, choose_reads, bind_reads}
-use Rattle.go_expr_syntax.proofs.Marks.{comma, close_paren, open_paren, open_bracket, close_bracket, open_brace, close_brace, star}
+use Rattle.go_expr_syntax.proofs.Viable.{next_is, ends_so, refuse_next, refuse_end, ReadsAt, Sample, Behind, Past, After, done_reads, like_reads, as_reads, cons_reads, past_reads, choose_reads, bind_reads}
+use Rattle.go_expr_syntax.proofs.Marks.{comma, close_paren, open_paren, open_bracket, close_bracket, open_brace, close_brace}
 use Rattle.go_expr_syntax.proofs.NameReads.{IsIdent, any_ident, ident_reads}
 use Rattle.go_type_syntax.proofs.Standing.{SigAt}
 use Rattle.go_type_syntax.proofs.ParamReads.{some_sig, sig_reads}
@@ -81,65 +81,70 @@ end_read r ts =
     (record { tokens = []; made = r; stands = λ tail c. (refl, f.closes c tail) })
     (λ k vs e'. done_reads (Past close_paren (EndAt r)) (λ rest. Ok (r, rest)) vs r (λ tail c. (refl, f.closes c tail)) (λ r' d. refl)))
 
--- what stands after a base
-abbrev BaseAt : Option Ident → Bool → Ident → List Symbol → Receiver → List Symbol → Type 0
-BaseAt name pointer base ts x rest = (args : List Ident) × (us : List Symbol) × (x ≡ receiver name pointer base args) × IsArgs ts args us × IsReceiverEnd us rest
+-- what stands after the base of a receiver that begins at this place
+abbrev BaseAt : Option Ident → Bool → Ident → ℕ → List Symbol → Receiver → List Symbol → Type 0
+BaseAt name pointer base at ts x rest = (args : List Ident) × (us : List Symbol) × (x ≡ receiver name pointer base args at) × IsArgs ts args us × IsReceiverEnd us rest
 
-base_read : (name : Option Ident) (pointer : Bool) (base : Ident) (ts : List Symbol) → ReadsAt (BaseAt name pointer base) (receiver_base name pointer base) ts (receiver_base name pointer base ts)
-base_read name pointer base ts =
-    bind_reads IsArgs (BaseAt name pointer base) args_at (λ args us. receiver_end (receiver name pointer base args) us) ts
-    (λ args. record { tokens = t.CloseParen 0 ∷ []; made = receiver name pointer base args; stands = λ tail us w. (args, t.CloseParen 0 ∷ tail, refl, w, f.closes 0 tail) })
-    (λ args us o. as_reads (EndAt (receiver name pointer base args)) (After IsArgs (BaseAt name pointer base) args) (receiver_end (receiver name pointer base args)) us (receiver_end (receiver name pointer base args) us)
-    (λ vs x rest w ws q. (args, vs, w.0, q, w.1)) (end_read (receiver name pointer base args) us))
+abbrev base_by : Option Ident → Bool → ℕ → Ident → List Symbol → Reply Receiver
+base_by name pointer at base us = receiver_base name pointer base at us
+
+base_read : (name : Option Ident) (pointer : Bool) (base : Ident) (at : ℕ) (ts : List Symbol) → ReadsAt (BaseAt name pointer base at) (receiver_base name pointer base at) ts (receiver_base name pointer base at ts)
+base_read name pointer base at ts =
+    bind_reads IsArgs (BaseAt name pointer base at) args_at (λ args us. receiver_end (receiver name pointer base args at) us) ts
+    (λ args. record { tokens = t.CloseParen 0 ∷ []; made = receiver name pointer base args at; stands = λ tail us w. (args, t.CloseParen 0 ∷ tail, refl, w, f.closes 0 tail) })
+    (λ args us o. as_reads (EndAt (receiver name pointer base args at)) (After IsArgs (BaseAt name pointer base at) args) (receiver_end (receiver name pointer base args at)) us (receiver_end (receiver name pointer base args at) us)
+    (λ vs x rest w ws q. (args, vs, w.0, q, w.1)) (end_read (receiver name pointer base args at) us))
     (args_at ts) (args_read ts)
 
-some_base : (name : Option Ident) (pointer : Bool) (base : Ident) → Sample (BaseAt name pointer base)
-some_base name pointer base = record { tokens = t.CloseParen 0 ∷ []; made = receiver name pointer base []; stands = λ tail. ([], t.CloseParen 0 ∷ tail, refl, f.no_args (t.CloseParen 0 ∷ tail), f.closes 0 tail) }
+some_base : (name : Option Ident) (pointer : Bool) (base : Ident) (at : ℕ) → Sample (BaseAt name pointer base at)
+some_base name pointer base at = record { tokens = t.CloseParen 0 ∷ []; made = receiver name pointer base [] at; stands = λ tail. ([], t.CloseParen 0 ∷ tail, refl, f.no_args (t.CloseParen 0 ∷ tail), f.closes 0 tail) }
 
 -- a base, and what stands after it
-abbrev WholeAt : Option Ident → Bool → List Symbol → Receiver → List Symbol → Type 0
-WholeAt name pointer ts x rest = (base : Ident) × (us : List Symbol) × (ts ≡ t.Ident base ∷ us) × BaseAt name pointer base us x rest
+abbrev WholeAt : Option Ident → Bool → ℕ → List Symbol → Receiver → List Symbol → Type 0
+WholeAt name pointer at ts x rest = (base : Ident) × (us : List Symbol) × (ts ≡ t.Ident base ∷ us) × BaseAt name pointer base at us x rest
 
-pointer_read : (name : Option Ident) (ts : List Symbol) → ReadsAt (WholeAt name true) (receiver_pointer name) ts (receiver_pointer name ts)
-pointer_read name ts =
-    bind_reads IsIdent (WholeAt name true) ident_at (receiver_base name true) ts
-    (λ base. let s = some_base name true base in record { tokens = s.tokens; made = s.made; stands = λ tail us e. (base, s.tokens ++ tail, e, s.stands tail) })
-    (λ base us o. as_reads (BaseAt name true base) (After IsIdent (WholeAt name true) base) (receiver_base name true base) us (receiver_base name true base us) (λ vs x rest w ws e. (base, vs, e, w)) (base_read name true base us))
+pointer_read : (name : Option Ident) (at : ℕ) (ts : List Symbol) → ReadsAt (WholeAt name true at) (receiver_pointer name at) ts (receiver_pointer name at ts)
+pointer_read name at ts =
+    bind_reads IsIdent (WholeAt name true at) ident_at (base_by name true at) ts
+    (λ base. let s = some_base name true base at in record { tokens = s.tokens; made = s.made; stands = λ tail us e. (base, s.tokens ++ tail, e, s.stands tail) })
+    (λ base us o. as_reads (BaseAt name true base at) (After IsIdent (WholeAt name true at) base) (receiver_base name true base at) us (receiver_base name true base at us) (λ vs x rest w ws e. (base, vs, e, w)) (base_read name true base at us))
     (ident_at ts) (ident_reads ts)
 
-base_as : (i : Ident) (us : List Symbol) (x : Receiver) (rest : List Symbol) → BaseAt None false i us x rest → IsReceiver (t.Ident i ∷ us) x rest
+base_as : (i : Ident) (us : List Symbol) (x : Receiver) (rest : List Symbol) → BaseAt None false i i.start us x rest → IsReceiver (t.Ident i ∷ us) x rest
 base_as i us x rest w = rw w.2 (f.by_value i us w.0 w.1 rest w.3 w.4)
 
-named_as : (i b : Ident) (us : List Symbol) (x : Receiver) (rest : List Symbol) → BaseAt (Some i) false b us x rest → IsReceiver (t.Ident i ∷ t.Ident b ∷ us) x rest
+named_as : (i b : Ident) (us : List Symbol) (x : Receiver) (rest : List Symbol) → BaseAt (Some i) false b i.start us x rest → IsReceiver (t.Ident i ∷ t.Ident b ∷ us) x rest
 named_as i b us x rest w = rw w.2 (f.named_value i b us w.0 w.1 rest w.3 w.4)
 
-pointer_as : (i : Ident) (p : ℕ) (us : List Symbol) (x : Receiver) (rest : List Symbol) → WholeAt (Some i) true us x rest → IsReceiver (t.Ident i ∷ t.Star p ∷ us) x rest
+pointer_as : (i : Ident) (p : ℕ) (us : List Symbol) (x : Receiver) (rest : List Symbol) → WholeAt (Some i) true i.start us x rest → IsReceiver (t.Ident i ∷ t.Star p ∷ us) x rest
 pointer_as i p us x rest w = rw (w.2, w.3.2) (f.named_pointer i p w.0 w.1 w.3.0 w.3.1 rest w.3.3 w.3.4)
 
-star_as : (p : ℕ) (us : List Symbol) (x : Receiver) (rest : List Symbol) → WholeAt None true us x rest → IsReceiver (t.Star p ∷ us) x rest
+star_as : (p : ℕ) (us : List Symbol) (x : Receiver) (rest : List Symbol) → WholeAt None true p us x rest → IsReceiver (t.Star p ∷ us) x rest
 star_as p us x rest w = rw (w.2, w.3.2) (f.by_pointer p w.0 w.1 w.3.0 w.3.1 rest w.3.3 w.3.4)
 
-alone_read : (i : Ident) (ts : List Symbol) → ReadsAt (Behind (t.Ident i) IsReceiver) (receiver_base None false i) ts (receiver_base None false i ts)
-alone_read i ts = as_reads (BaseAt None false i) (Behind (t.Ident i) IsReceiver) (receiver_base None false i) ts (receiver_base None false i ts) (base_as i) (base_read None false i ts)
+alone_read : (i : Ident) (ts : List Symbol) → ReadsAt (Behind (t.Ident i) IsReceiver) (receiver_base None false i i.start) ts (receiver_base None false i i.start ts)
+alone_read i ts = as_reads (BaseAt None false i i.start) (Behind (t.Ident i) IsReceiver) (receiver_base None false i i.start) ts (receiver_base None false i i.start ts) (base_as i) (base_read None false i i.start ts)
 
 first_read : (i : Ident) (ts : List Symbol) → ReadsAt (Behind (t.Ident i) IsReceiver) (receiver_first i) ts (receiver_first i ts)
-first_read i [] = like_reads (Behind (t.Ident i) IsReceiver) (receiver_first i) (receiver_base None false i) [] (receiver_base None false i []) (ends_so (λ r. receiver_first i r ≡ receiver_base None false i r) refl) (alone_read i [])
+first_read i [] = like_reads (Behind (t.Ident i) IsReceiver) (receiver_first i) (receiver_base None false i i.start) [] (receiver_base None false i i.start []) (ends_so (λ r. receiver_first i r ≡ receiver_base None false i i.start r) refl) (alone_read i [])
 first_read i (t.Ident b ∷ ts) =
-    cons_reads (Behind (t.Ident i) IsReceiver) (receiver_first i) (receiver_base (Some i) false b) (t.Ident b) ts (receiver_base (Some i) false b ts) (λ r. refl)
-    (as_reads (BaseAt (Some i) false b) (Behind (t.Ident b) (Behind (t.Ident i) IsReceiver)) (receiver_base (Some i) false b) ts (receiver_base (Some i) false b ts) (named_as i b) (base_read (Some i) false b ts))
+    cons_reads (Behind (t.Ident i) IsReceiver) (receiver_first i) (receiver_base (Some i) false b i.start) (t.Ident b) ts (receiver_base (Some i) false b i.start ts) (λ r. refl)
+    (as_reads (BaseAt (Some i) false b i.start) (Behind (t.Ident b) (Behind (t.Ident i) IsReceiver)) (receiver_base (Some i) false b i.start) ts (receiver_base (Some i) false b i.start ts) (named_as i b) (base_read (Some i) false b i.start ts))
 first_read i (t.Star p ∷ ts) =
-    cons_reads (Behind (t.Ident i) IsReceiver) (receiver_first i) (receiver_pointer (Some i)) (t.Star p) ts (receiver_pointer (Some i) ts) (λ r. refl)
-    (as_reads (WholeAt (Some i) true) (Behind (t.Star p) (Behind (t.Ident i) IsReceiver)) (receiver_pointer (Some i)) ts (receiver_pointer (Some i) ts) (pointer_as i p) (pointer_read (Some i) ts))
-first_read i (k ∷ ts) = like_reads (Behind (t.Ident i) IsReceiver) (receiver_first i) (receiver_base None false i) (k ∷ ts) (receiver_base None false i (k ∷ ts)) (next_is (λ r. receiver_first i r ≡ receiver_base None false i r) k (λ r. refl)) (alone_read i (k ∷ ts))
+    cons_reads (Behind (t.Ident i) IsReceiver) (receiver_first i) (receiver_pointer (Some i) i.start) (t.Star p) ts (receiver_pointer (Some i) i.start ts) (λ r. refl)
+    (as_reads (WholeAt (Some i) true i.start) (Behind (t.Star p) (Behind (t.Ident i) IsReceiver)) (receiver_pointer (Some i) i.start) ts (receiver_pointer (Some i) i.start ts) (pointer_as i p) (pointer_read (Some i) i.start ts))
+first_read i (k ∷ ts) = like_reads (Behind (t.Ident i) IsReceiver) (receiver_first i) (receiver_base None false i i.start) (k ∷ ts) (receiver_base None false i i.start (k ∷ ts)) (next_is (λ r. receiver_first i r ≡ receiver_base None false i i.start r) k (λ r. refl)) (alone_read i (k ∷ ts))
+
+abbrev some_receiver : Sample IsReceiver
+some_receiver = let s = some_base None false any_ident any_ident.start in record { tokens = t.Ident any_ident ∷ s.tokens; made = s.made; stands = λ tail. base_as any_ident (s.tokens ++ tail) s.made tail (s.stands tail) }
 
 receiver_read : (ts : List Symbol) → ReadsAt IsReceiver receiver_at ts (receiver_at ts)
-receiver_read ts =
-    choose_reads is_star IsReceiver star (receiver_pointer None) (λ us. ident_at us >>= λ i. receiver_first i.0 i.1) ts
-    (λ us. as_reads (WholeAt None true) (Past star IsReceiver) (receiver_pointer None) us (receiver_pointer None us) (λ vs x rest w p. star_as p vs x rest w) (pointer_read None us))
-    (λ e. bind_reads IsIdent IsReceiver ident_at receiver_first ts
-    (λ i. let s = some_base None false i in record { tokens = s.tokens; made = s.made; stands = λ tail us e. rw e (base_as i (s.tokens ++ tail) s.made tail (s.stands tail)) })
-    (λ i us o. as_reads (Behind (t.Ident i) IsReceiver) (After IsIdent IsReceiver i) (receiver_first i) us (receiver_first i us) (λ vs x rest w ws e. rw e w) (first_read i us))
-    (ident_at ts) (ident_reads ts))
+receiver_read [] = refuse_end IsReceiver receiver_at some_receiver refl
+receiver_read (t.Star p ∷ ts) =
+    cons_reads IsReceiver receiver_at (receiver_pointer None p) (t.Star p) ts (receiver_pointer None p ts) (λ r. refl)
+    (as_reads (WholeAt None true p) (Behind (t.Star p) IsReceiver) (receiver_pointer None p) ts (receiver_pointer None p ts) (star_as p) (pointer_read None p ts))
+receiver_read (t.Ident i ∷ ts) = cons_reads IsReceiver receiver_at (receiver_first i) (t.Ident i) ts (receiver_first i ts) (λ r. refl) (first_read i ts)
+receiver_read (k ∷ ts) = refuse_next IsReceiver receiver_at k ts some_receiver (λ r. refl)
 
 -- ---- bodies
 

@@ -7,7 +7,7 @@ use Rattle.go_syntax.specs.declared.tree.Receiver.{Receiver}
 use Rattle.go_syntax.specs.declared.tree.FuncDecl.{FuncDecl}
 use Rattle.go_type_syntax.specs.declared.tree.SigExpr.{SigExpr}
 use Rattle.go_syntax.specs.declared.tree.TParam.{TParam}
-use Rattle.go_expr_syntax.specs.Reading.{Reply, ◌>>=◌, past, choose, starts, is_comma, is_close_paren, is_open_paren}
+use Rattle.go_expr_syntax.specs.Reading.{Reply, ◌>>=◌, unexpected, past, choose, starts, is_comma, is_close_paren, is_open_paren}
 use Rattle.go_expr_syntax.specs.Reading.{is_open_bracket, is_close_bracket, is_open_brace, is_close_brace, is_star}
 use Rattle.go_expr_syntax.specs.Reading.{ListForm, series_item, series}
 use Rattle.go_expr_syntax.specs.Names.{ident_at, ident_or}
@@ -17,8 +17,10 @@ use Rattle.go_type_syntax.specs.Types.{type_at}
 use Rattle.go_syntax.specs.Generics.{IsGeneric, generic_at}
 use Rattle.go_syntax.specs.Skipped.{IsSkipped, skip}
 
-abbrev pub receiver : Option Ident → Bool → Ident → List Ident → Receiver
-receiver name pointer base args = record { name = name; pointer = pointer; base = base; args = args }
+-- one that begins at this place
+abbrev pub receiver : Option Ident → Bool → Ident → List Ident → ℕ → Receiver
+receiver name pointer base args at =
+    record { name = name; pointer = pointer; base = base; args = args; at = at }
 
 abbrev pub function : Option Receiver → Ident → List TParam → SigExpr → FuncDecl
 function r i ps sig = record { receiver = r; name = i; tparams = ps; sig = sig }
@@ -46,15 +48,16 @@ pub data IsReceiverEnd : List Symbol → List Symbol → Type 0 where
 -- after the parenthesis: [ identifier ] [ "*" ] identifier [ Args ] [ "," ] ")"
 pub data IsReceiver : List Symbol → Receiver → List Symbol → Type 0 where
   by_value : (base : Ident) (ts : List Symbol) (args : List Ident) (us rest : List Symbol) → IsArgs ts args us
-      → IsReceiverEnd us rest → IsReceiver (t.Ident base ∷ ts) (receiver None false base args) rest
+      → IsReceiverEnd us rest → IsReceiver (t.Ident base ∷ ts) (receiver None false base args base.start) rest
   by_pointer : (p : ℕ) (base : Ident) (ts : List Symbol) (args : List Ident) (us rest : List Symbol)
       → IsArgs ts args us → IsReceiverEnd us rest
-      → IsReceiver (t.Star p ∷ t.Ident base ∷ ts) (receiver None true base args) rest
+      → IsReceiver (t.Star p ∷ t.Ident base ∷ ts) (receiver None true base args p) rest
   named_value : (i base : Ident) (ts : List Symbol) (args : List Ident) (us rest : List Symbol) → IsArgs ts args us
-      → IsReceiverEnd us rest → IsReceiver (t.Ident i ∷ t.Ident base ∷ ts) (receiver (Some i) false base args) rest
+      → IsReceiverEnd us rest
+      → IsReceiver (t.Ident i ∷ t.Ident base ∷ ts) (receiver (Some i) false base args i.start) rest
   named_pointer : (i : Ident) (p : ℕ) (base : Ident) (ts : List Symbol) (args : List Ident) (us rest : List Symbol)
       → IsArgs ts args us → IsReceiverEnd us rest
-      → IsReceiver (t.Ident i ∷ t.Star p ∷ t.Ident base ∷ ts) (receiver (Some i) true base args) rest
+      → IsReceiver (t.Ident i ∷ t.Star p ∷ t.Ident base ∷ ts) (receiver (Some i) true base args i.start) rest
 
 -- [ "{" skipped "}" ]
 pub data IsBody : List Symbol → List Symbol → Type 0 where
@@ -95,21 +98,24 @@ abbrev pub receiver_end : Receiver → List Symbol → Reply Receiver
 receiver_end r ts = choose (past is_comma ts) (receiver_close r) (receiver_close r ts)
 
 -- after the base
-abbrev pub receiver_base : Option Ident → Bool → Ident → List Symbol → Reply Receiver
-receiver_base name pointer base ts = args_at ts >>= λ args. receiver_end (receiver name pointer base args.0) args.1
+abbrev pub receiver_base : Option Ident → Bool → Ident → ℕ → List Symbol → Reply Receiver
+receiver_base name pointer base at ts =
+    args_at ts >>= λ args. receiver_end (receiver name pointer base args.0 at) args.1
 
 -- after the star
-abbrev pub receiver_pointer : Option Ident → List Symbol → Reply Receiver
-receiver_pointer name ts = ident_at ts >>= λ base. receiver_base name true base.0 base.1
+abbrev pub receiver_pointer : Option Ident → ℕ → List Symbol → Reply Receiver
+receiver_pointer name at ts = ident_at ts >>= λ base. receiver_base name true base.0 at base.1
 
 -- after the first identifier
 abbrev pub receiver_first : Ident → List Symbol → Reply Receiver
 receiver_first i ts =
-    ident_or (ident_at ts) (receiver_base (Some i) false)
-    (choose (past is_star ts) (receiver_pointer (Some i)) (receiver_base None false i ts))
+    ident_or (ident_at ts) (λ base us. receiver_base (Some i) false base i.start us)
+    (choose (past is_star ts) (receiver_pointer (Some i) i.start) (receiver_base None false i i.start ts))
 
 abbrev pub receiver_at : List Symbol → Reply Receiver
-receiver_at ts = choose (past is_star ts) (receiver_pointer None) (ident_at ts >>= λ i. receiver_first i.0 i.1)
+receiver_at (t.Star at ∷ ts) = receiver_pointer None at ts
+receiver_at (t.Ident i ∷ ts) = receiver_first i ts
+receiver_at ts = unexpected ts
 
 abbrev pub body_close : FuncDecl → List Symbol → Reply FuncDecl
 body_close f ts = past is_close_brace ts >>= λ rest. Ok (f, rest)

@@ -7,7 +7,7 @@ ghost use Rattle.go_syntax.specs.Functions.{method_name, func_name, func_at};
 use crate::generics::generic;
 use crate::skipped::skipped;
 use crate::tree::{FuncDecl, Receiver, TParam};
-use go_expr_syntax::{Fault, Ident, Kind, Read, Stop, Tokens, ident, onward, past, single};
+use go_expr_syntax::{Fault, Ident, Kind, Read, Stop, Symbol, Tokens, ident, onward, past, single};
 use go_type_syntax::signature;
 use sqlite_items::Items;
 use std::alloc::Global;
@@ -67,15 +67,16 @@ fn receiver_end(receiver: Receiver, tokens: Tokens<'_>) -> Result<(Receiver, Tok
     Ok((receiver, rest))
 }
 
-/// A receiver, after its base.
+/// A receiver that begins at this place, after its base.
 fn receiver_base(
     alloc: Global,
     name: Option<Ident>,
     pointer: bool,
     base: Ident,
+    at: u32,
     tokens: Tokens<'_>,
 ) -> Read<'_, Receiver>
-    ensures { ParsesAs result (receiver_base name pointer base tokens.now) }
+    ensures { ParsesAs result (receiver_base name pointer base at tokens.now) }
 {
     let (args, rest) = args(alloc, tokens)?;
     let receiver = Receiver {
@@ -83,16 +84,22 @@ fn receiver_base(
         pointer,
         base,
         args,
+        at,
     };
     Ok(receiver_end(receiver, rest)?)
 }
 
-/// A receiver that is a pointer, after the star.
-fn receiver_pointer(alloc: Global, name: Option<Ident>, tokens: Tokens<'_>) -> Read<'_, Receiver>
-    ensures { ParsesAs result (receiver_pointer name tokens.now) }
+/// A receiver that is a pointer and begins at this place, after the star.
+fn receiver_pointer(
+    alloc: Global,
+    name: Option<Ident>,
+    at: u32,
+    tokens: Tokens<'_>,
+) -> Read<'_, Receiver>
+    ensures { ParsesAs result (receiver_pointer name at tokens.now) }
 {
     let (base, rest) = ident(tokens)?;
-    receiver_base(alloc, name, true, base, rest)
+    receiver_base(alloc, name, true, base, at, rest)
 }
 
 /// A receiver, after its first token, which is an identifier.
@@ -100,23 +107,26 @@ fn receiver_first(alloc: Global, name: Ident, tokens: Tokens<'_>) -> Read<'_, Re
     ensures { ParsesAs result (receiver_first name tokens.now) }
 {
     if let Ok((base, rest)) = ident(tokens) {
-        return receiver_base(alloc, Some(name), false, base, rest);
+        return receiver_base(alloc, Some(name), false, base, name.start, rest);
     }
     if let Ok(rest) = past(Kind::Star, tokens) {
-        return receiver_pointer(alloc, Some(name), rest);
+        return receiver_pointer(alloc, Some(name), name.start, rest);
     }
-    receiver_base(alloc, None, false, name, tokens)
+    receiver_base(alloc, None, false, name, name.start, tokens)
 }
 
 /// A receiver, after its parenthesis.
 fn receiver(alloc: Global, tokens: Tokens<'_>) -> Read<'_, Receiver>
     ensures { ParsesAs result (receiver_at tokens.now) }
 {
-    if let Ok(rest) = past(Kind::Star, tokens) {
-        return receiver_pointer(alloc, None, rest);
+    let [first, rest @ ..] = tokens else {
+        return Err(Stop::At(Fault::Unexpected(0)));
+    };
+    match *first {
+        Symbol::Star(at) => receiver_pointer(alloc, None, at, rest),
+        Symbol::Ident(name) => receiver_first(alloc, name, rest),
+        _ => Err(Stop::At(Fault::Unexpected(tokens.len()))),
     }
-    let (name, rest) = ident(tokens)?;
-    receiver_first(alloc, name, rest)
 }
 
 /// A function with its body, if one comes next.

@@ -48,13 +48,15 @@ pub struct TypeSpec {
     pub ty: TypeExpr,
 }
 
-/// The receiver of a method: its name, the base type and the names of that type's parameters.
+/// The receiver of a method: its name, the base type and the names of that type's parameters. It begins at `at`, behind
+/// the parenthesis: at its name, or else at the star or the base.
 #[derive(Debug, Drop)]
 pub struct Receiver {
     pub name: Option<Ident>,
     pub pointer: bool,
     pub base: Ident,
     pub args: Items<Ident>,
+    pub at: u32,
 }
 
 /// A declared function or method, whose body is skipped.

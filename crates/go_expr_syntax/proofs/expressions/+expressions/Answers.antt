@@ -30,7 +30,7 @@ operators-returns-in_err-right t c =
 pub operators-loop-op-preserved : goal.operators-loop-op-preserved
 operators-loop-op-preserved t c =
     let inner = expr_of c.args.left (c.args.level - 1) in
-    rw (c.onward-rest.ensures, c.in_ok-found.ensures, c.min-spare.ensures) (climb_goes c.args.level inner c.loop-op.found c.loop-op.spare c.loop-op.rest.now c.in-Ok.op c.in-Ok.after.now (c.in_ok-right.right, c.in_ok-right.other) c.in_ok-right.next.now
+    rw (c.onward-rest.ensures, c.in_ok-found.ensures, c.start.ensures, c.min-spare.ensures) (climb_goes c.args.level inner c.loop-op.found c.loop-op.spare c.loop-op.rest.now c.in-Ok.op c.in-Ok.after.now (c.in_ok-right.right, c.in_ok-right.other) c.in_ok-right.next.now
     (climb c.args.level inner c.args.first c.args.tokens.now) c.in-Ok.ensures c.if-spare-eq0.false c.in_ok-right.ensures c.loop-op.invariant)
 
 pub up_to_level-returns-in_err-found : goal.up_to_level-returns-in_err-found
