@@ -1,10 +1,8 @@
 //! Cases of sources: their tokens, their trees, and the values of string literals.
 
-ghost use Rattle.std.specs.Prelude.{◌≤◌, length};
-
 use crate::escapes::{LONGEST, escaped};
 use crate::no_answer::NoAnswer;
-use go_lexer::{Token, tokens};
+use go_lexer::{SourceTokens, Token, lex};
 use go_syntax::{SourceFile, parse};
 use std::alloc::{AllocError, Global};
 use string_literals::unquoted;
@@ -22,9 +20,9 @@ pub fn answer(alloc: Global, wanted: Wanted, src: &[u8]) -> Result<String, NoAns
     if src.len() > LONGEST {
         return Err(NoAnswer::NoCase);
     }
-    let answer = match tokens(alloc, src) {
-        Ok(found) if wanted == Wanted::Tokens => listed(alloc, &found)?,
-        Ok(found) => parsed(alloc, src, &found, wanted == Wanted::Tree)?,
+    let answer = match lex(alloc, src) {
+        Ok(found) if wanted == Wanted::Tokens => listed(alloc, found.tokens())?,
+        Ok(found) => parsed(alloc, &found, wanted == Wanted::Tree)?,
         Err(fault) => format!(in alloc; "{fault:?}")?,
     };
     Ok(answer)
@@ -45,10 +43,8 @@ fn listed(alloc: Global, found: &[Token]) -> Result<String, AllocError> {
 }
 
 /// The tree of a source or the numbers of its imports and declarations, or its first fault.
-fn parsed(alloc: Global, src: &[u8], found: &[Token], whole: bool) -> Result<String, AllocError>
-    requires { length src.now ≤ 4194304 }
-{
-    match parse(alloc, src, found) {
+fn parsed(alloc: Global, source: &SourceTokens<'_>, whole: bool) -> Result<String, AllocError> {
+    match parse(alloc, source) {
         Ok(file) if whole => format!(in alloc; "{file:?}"),
         Ok(file) => counted(alloc, &file),
         Err(fault) => format!(in alloc; "{fault:?}"),

@@ -12,3 +12,6 @@ pub mod Turns
 pub mod NameTurns
 pub mod Agreeing
 pub mod ExprAgain
+pub mod PlainLaws
+pub mod StandingLaws
+pub mod SymbolsStanding

@@ -6,3 +6,4 @@ pub mod Operands
 pub mod Kinds
 pub mod TokenView
 pub mod PlainExprs
+pub mod StandingExprs

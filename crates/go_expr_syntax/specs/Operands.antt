@@ -99,7 +99,7 @@ pick (Err f) q other = other
 abbrev pub climb_on : ℕ → (Sized → List Symbol → Reply Sized) → Reader → Operand → List Symbol → Operator
     → List Symbol → Reply Sized
 climb_on zero more inner x ts op us = too_deep ts
-climb_on (suc spare) more inner x ts op us = 
+climb_on (suc spare) more inner x ts op us =
     inner us >>= λ y. more (binary op (start_of ts) x y.0.0, min spare y.0.1) y.1
 
 abbrev pub climb_by : ℕ → (Sized → List Symbol → Reply Sized) → Reader → Sized → List Symbol → Reply Sized

@@ -52,3 +52,11 @@ expr_step word value (Expr-F.Binary op p e f at) = binary op p e f at
 -- an expression as a plain tree
 abbrev pub plain_expr : {W L : Type 0} → (Ident → W) → (Token → L) → Expr → PlainExpr W L
 plain_expr {W} {L} word value x = fold-Expr (PlainExpr W L) (expr_step word value) x
+
+-- with the spans of its identifiers and its literals' tokens
+abbrev pub spans_of_expr : Expr → PlainExpr Ident Token
+spans_of_expr x = plain_expr (λ i. i) (λ token. token) x
+
+-- where an expression begins
+abbrev pub expr_start : Expr → ℕ
+expr_start x = expr_place (spans_of_expr x)

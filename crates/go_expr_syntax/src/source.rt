@@ -199,6 +199,15 @@ fn text_of(src: &[u8], start: u32, end: u32) -> &[u8]
     }
 }
 
+impl Ident {
+    /// The text of an identifier of this source: the bytes of its span, or none where that is none of the source.
+    pub fn text(self, src: &[u8]) -> &[u8]
+        ensures { result.now ≡ text_of src.now self.start self.end }
+    {
+        text_of(src, self.start, self.end)
+    }
+}
+
 /// What the grammar sees of a token.
 fn symbol_of(src: &[u8], token: Token) -> Symbol<'_>
     ensures { result ≡ symbol_of src.now token }

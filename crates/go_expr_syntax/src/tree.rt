@@ -1,3 +1,6 @@
+ghost use Rattle.std.specs.Prelude.{◌≡◌};
+ghost use Rattle.go_expr_syntax.specs.PlainExprs.{expr_start};
+
 use crate::symbols::{Ident, Operator};
 use go_lexer::Token;
 use sqlite_items::Boxed;
@@ -44,4 +47,20 @@ pub enum Expr {
         right: Boxed<Expr>,
         at: u32,
     },
+}
+
+impl Expr {
+    /// Where the expression begins: at its first token.
+    pub fn at(&self) -> u32
+        ensures { result ≡ expr_start self.now }
+    {
+        match self {
+            Expr::Literal { at, .. }
+            | Expr::Name { at, .. }
+            | Expr::Convert { at, .. }
+            | Expr::Paren { at, .. }
+            | Expr::Unary { at, .. }
+            | Expr::Binary { at, .. } => *at,
+        }
+    }
 }

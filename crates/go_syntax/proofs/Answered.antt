@@ -1,6 +1,8 @@
 -- What the answer of a call says of a source.
-use Rattle.std.proofs.Common.{ℕ, ◌≤◌, List, [], Result, Ok, Err, refl, subst, arith, ◌≡◌}
+use Rattle.std.proofs.Common.{ℕ, ◌≤◌, List, [], Result, Ok, Err, refl, sym, subst, arith, ◌≡◌}
 use Rattle.std.specs.Prelude.{IfOk, IfErr}
+use Rattle.std.specs.List.{All}
+use Rattle.go_lexer.specs.TokenTexts.{IsTokenOf}
 use Rattle.go_lexer.specs.declared.token_kinds.Token.{Token}
 use Rattle.go_syntax.specs.declared.tree.SourceFile.{SourceFile}
 use Rattle.go_expr_syntax.specs.declared.faults.Fault.{Fault}
@@ -11,10 +13,14 @@ use Rattle.go_expr_syntax.specs.Reading.{Gives}
 use Rattle.go_syntax.specs.Decls.{IsFileOf}
 use Rattle.go_syntax.specs.Files.{file_at}
 use Rattle.go_syntax.specs.declared.parsing.TheConstants.{MAX_DEPTH}
+use Rattle.go_syntax.specs.declared.parsing.SyntaxFault.{SyntaxFault}
 use Rattle.go_syntax.specs.Outcomes.{IsFile, Explains}
 use Rattle.go_expr_syntax.specs.TokenView.{symbols_of}
 use Rattle.go_syntax.specs.Parsing.{fault_of, answer_of, Tells, Answers, placed_in, reading_of, IsReading}
+use Rattle.go_syntax.specs.StandingFiles.{FileStands}
+use Rattle.go_expr_syntax.proofs.SymbolsStanding.{symbols_stand}
 use Rattle.go_syntax.proofs.Laws.{is_found, is_only, is_within, explains}
+use Rattle.go_syntax.proofs.StandingFileLaws.{file_stands}
 
 abbrev Reads : List ℕ → List Token → Result SourceFile Stop → Type 0
 Reads src tokens r = Gives (λ x. x) r (file_at MAX_DEPTH (symbols_of src tokens))
@@ -58,3 +64,15 @@ pub exact_by : (src : List ℕ) (tokens : List Token) (r : Result SourceFile Sto
 exact_by src tokens (Ok x) h = rw h refl
 exact_by src tokens (Err stopped.OutOfMemory) h = tt
 exact_by src tokens (Err (stopped.At f)) h = exact_at src tokens f (file_at MAX_DEPTH (symbols_of src tokens)) h
+
+pub stands_by : (src : List ℕ) (tokens : List Token) (r : Result SourceFile Stop) → All (IsTokenOf src) tokens → Reads src tokens r → IfOk (answer_of src tokens r) (λ f. FileStands src f)
+stands_by src tokens (Ok x) all h = let w = is_found MAX_DEPTH (omega arith) (symbols_of src tokens) x h in file_stands src w.0 (symbols_of src tokens) x [] w.1 (symbols_stand src tokens all)
+stands_by src tokens (Err stopped.OutOfMemory) all h = tt
+stands_by src tokens (Err (stopped.At f)) all h = tt
+
+-- what holds of a source and its tokens, where they are lent
+pub at_source : (P : List ℕ → List Token → Result SourceFile SyntaxFault → Type 0) (src lent : List ℕ) (tokens items : List Token) (answer result : Result SourceFile SyntaxFault) → src ≡ lent → tokens ≡ items → result ≡ answer → P src tokens answer → P lent items result
+at_source P src lent tokens items answer result e f g h = subst (λ s. P s items result) e (subst (λ t. P src t result) f (subst (λ r. P src tokens r) (sym g) h))
+
+pub tokens_of : (src lent : List ℕ) (tokens : List Token) → src ≡ lent → All (IsTokenOf lent) tokens → All (IsTokenOf src) tokens
+tokens_of src lent tokens e h = subst (λ s. All (IsTokenOf s) tokens) (sym e) h

@@ -17,3 +17,4 @@ pub mod SpecTurns
 pub mod SkipTurns
 pub mod FuncTurns
 pub mod GenericTurns
+pub mod StandingFileLaws

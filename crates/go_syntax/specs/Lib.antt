@@ -7,3 +7,4 @@ pub mod Files
 pub mod Outcomes
 pub mod Specs
 pub mod Parsing
+pub mod StandingFiles

@@ -1,6 +1,8 @@
 -- What parsing a source may answer.
 use Rattle.std.specs.Prelude.{◌≡◌, ℕ, List, Result, Ok, Err}
+use Rattle.go_lexer.specs.TokenTexts.{Lexed}
 use Rattle.go_lexer.specs.declared.token_kinds.Token.{Token}
+use Rattle.go_expr_syntax.specs.declared.symbols.Symbol.{Symbol}
 use Rattle.go_syntax.specs.declared.tree.SourceFile.{SourceFile}
 use Rattle.go_expr_syntax.specs.declared.faults.Fault.{Fault}
 use Rattle.go_expr_syntax.specs.declared.faults.Fault.TheVariants as stop
@@ -14,6 +16,10 @@ use Rattle.go_syntax.specs.Outcomes.{IsUnexpected, IsTooDeep}
 use Rattle.go_expr_syntax.specs.TokenView.{symbols_of, place_of}
 use Rattle.go_syntax.specs.Files.{file_at}
 use Rattle.go_syntax.specs.declared.parsing.TheConstants.{MAX_DEPTH}
+
+-- the tokens of a source, as the grammar sees them
+abbrev pub symbols : Lexed → List Symbol
+symbols s = symbols_of s.source s.tokens
 
 abbrev pub fault_of : List ℕ → List Token → Fault → SyntaxFault
 fault_of src tokens (stop.Unexpected left) = fault.Unexpected (place_of src tokens left)

@@ -4,7 +4,8 @@ ghost use Rattle.go_syntax.specs.Files.{file_at};
 ghost use Rattle.go_syntax.specs.Decls.{IsFileOf};
 ghost use Rattle.go_syntax.specs.Outcomes.{IsFile};
 ghost use Rattle.go_expr_syntax.specs.TokenView.{symbols_of, place_of};
-ghost use Rattle.go_syntax.specs.Parsing.{fault_of, answer_of, Tells, Answers, reading_of, IsReading};
+ghost use Rattle.go_syntax.specs.Parsing.{symbols, fault_of, answer_of, Tells, Answers, reading_of, IsReading};
+ghost use Rattle.go_syntax.specs.StandingFiles.{FileStands};
 ghost use Rattle.go_syntax.specs.declared.tree.SourceFile.{SourceFile};
 ghost use Rattle.go_syntax.specs.declared.parsing.TheConstants.{MAX_DEPTH};
 ghost use Rattle.go_lexer.specs.declared.lexing.TheConstants.{SOURCE_LIMIT};
@@ -12,7 +13,7 @@ ghost use Rattle.go_lexer.specs.declared.lexing.TheConstants.{SOURCE_LIMIT};
 use crate::files::read_file;
 use crate::tree::SourceFile;
 use go_expr_syntax::{Fault, Stop, symbols_of};
-use go_lexer::Token;
+use go_lexer::{SourceTokens, Token};
 use std::alloc::Global;
 
 /// The most nodes on a path in the tree of a type or an expression.
@@ -99,21 +100,25 @@ fn answer_of(
     }
 }
 
-/// The tree of a file, whose tokens these are. It takes time in proportion to the tokens.
-pub fn parse(alloc: Global, src: &[u8], tokens: &[Token]) -> Result<SourceFile, SyntaxFault>
-    requires { length src.now ≤ SOURCE_LIMIT }
+/// The tree of a file. It takes time in proportion to the tokens.
+pub fn parse(alloc: Global, source: &SourceTokens<'_>) -> Result<SourceFile, SyntaxFault>
     // The tokens are the file that is answered.
-    ensures found { IfOk result (λ f. IsFile (symbols_of src.now tokens.now) f) }
+    ensures found { IfOk result (λ f. IsFile (symbols source.now) f) }
+    // What is answered stands in the source: spans lie there and spell what they are, declared names are some, and
+    // what constants repeat is before them.
+    ensures stands { IfOk result (λ f. FileStands source.now.source f) }
     // A file with no path of more than 1,000 nodes is answered, unless memory ran out, and no other.
-    ensures only { (m : ℕ) (f : SourceFile) → IsFileOf m (symbols_of src.now tokens.now) f [] → m ≤ MAX_DEPTH
+    ensures only { (m : ℕ) (f : SourceFile) → IsFileOf m (symbols source.now) f [] → m ≤ MAX_DEPTH
         → Answers result f }
     // No path of what is answered is longer.
-    ensures within { IfOk result (λ x. (m : ℕ) (f : SourceFile) → IsFileOf m (symbols_of src.now tokens.now) f []
+    ensures within { IfOk result (λ x. (m : ℕ) (f : SourceFile) → IsFileOf m (symbols source.now) f []
         → m ≤ MAX_DEPTH) }
     // At each fault's place the tokens are what it says.
-    ensures place { IfErr result (λ s. Tells src.now tokens.now s) }
+    ensures place { IfErr result (λ s. Tells source.now.source source.now.tokens s) }
     // The file and each fault, with its place, are what reading from the front gives, unless memory ran out.
-    ensures exact { IsReading result (reading_of src.now tokens.now) }
+    ensures exact { IsReading result (reading_of source.now.source source.now.tokens) }
 {
+    let src = source.source();
+    let tokens = source.tokens();
     answer_of(src, tokens, read_source(alloc, src, tokens))
 }

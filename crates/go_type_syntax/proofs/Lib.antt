@@ -13,3 +13,5 @@ pub mod TypeAgain
 pub mod ParamTurns
 pub mod SmallFits
 pub mod InstanceTurns
+pub mod PlainTypeLaws
+pub mod StandingTypeLaws

@@ -10,8 +10,8 @@ use Rattle.go_type_syntax.specs.declared.tree.SigExpr.{SigExpr}
 use Rattle.go_type_syntax.specs.declared.tree.TermExpr.{TermExpr}
 use Rattle.go_type_syntax.specs.declared.tree.ElemExpr.{ElemExpr}
 use Rattle.go_type_syntax.specs.declared.tree.TypeExpr.{TypeExpr}
-use Rattle.go_type_syntax.specs.declared.tree.TypeExpr.TheOpen.{FieldExpr-F, ParamExpr-F, SigExpr-F, TermExpr-F, ElemExpr-F, TypeExpr-F}
-use Rattle.go_type_syntax.specs.declared.tree.TypeExpr.TheFolds.{fold-FieldExpr, fold-ParamExpr, fold-SigExpr, fold-TermExpr, fold-ElemExpr, fold-TypeExpr}
+use Rattle.go_type_syntax.specs.declared.tree.ElemExpr.TheOpen.{ElemExpr-F, TypeExpr-F, FieldExpr-F, ParamExpr-F, SigExpr-F, TermExpr-F}
+use Rattle.go_type_syntax.specs.declared.tree.ElemExpr.TheFolds.{fold-ElemExpr, fold-TypeExpr, fold-FieldExpr, fold-ParamExpr, fold-SigExpr, fold-TermExpr}
 
 mutual
   pub data PlainType (W L : Type 0) : Type 0 where
@@ -102,3 +102,89 @@ elems_of (x ∷ xs) = and_elem x (elems_of xs)
 abbrev pub terms_of : {W L : Type 0} → List (PlainTerm W L) → PlainTerms W L
 terms_of [] = no_term
 terms_of (x ∷ xs) = and_term x (terms_of xs)
+
+-- ---- one level, where what stands inside is plain
+
+abbrev pub type_step : {W L : Type 0} → (Ident → W) → (Token → L)
+    → TypeExpr-F (PlainElem W L) (PlainType W L) (PlainField W L) (PlainParam W L) (PlainSig W L) (PlainTerm W L)
+    → PlainType W L
+type_step word value (TypeExpr-F.Name x args at) = named (plain_name word x) (types_of args) at
+type_step word value (TypeExpr-F.Paren t at) = paren t at
+type_step word value (TypeExpr-F.Pointer t at) = pointer t at
+type_step word value (TypeExpr-F.Slice t at) = slice t at
+type_step word value (TypeExpr-F.Array e t at) = array (plain_expr word value e) t at
+type_step word value (TypeExpr-F.MapOf k t at) = map_of k t at
+type_step word value (TypeExpr-F.Chan r s t at) = chan r s t at
+type_step word value (TypeExpr-F.Func sig at) = func sig at
+type_step word value (TypeExpr-F.Struct fields at) = struct (fields_of fields) at
+type_step word value (TypeExpr-F.Interface elems at) = interface (elems_of elems) at
+type_step word value (TypeExpr-F.Union terms at) = union (terms_of terms) at
+
+abbrev pub elem_step : {W L : Type 0} → (Ident → W)
+    → ElemExpr-F (PlainElem W L) (PlainType W L) (PlainField W L) (PlainParam W L) (PlainSig W L) (PlainTerm W L)
+    → PlainElem W L
+elem_step word (ElemExpr-F.Method i sig at) = method (word i) sig at
+elem_step word (ElemExpr-F.Embedded t at) = embedded t at
+
+abbrev pub field_step : {W L : Type 0} → (Ident → W)
+    → FieldExpr-F (PlainElem W L) (PlainType W L) (PlainField W L) (PlainParam W L) (PlainSig W L) (PlainTerm W L)
+    → PlainField W L
+field_step word f = having (map word f.names) f.ty f.tag f.at
+
+abbrev pub param_step : {W L : Type 0} → (Ident → W)
+    → ParamExpr-F (PlainElem W L) (PlainType W L) (PlainField W L) (PlainParam W L) (PlainSig W L) (PlainTerm W L)
+    → PlainParam W L
+param_step word p = sharing (map word p.names) p.variadic p.ty p.at
+
+abbrev pub sig_step : {W L : Type 0}
+    → SigExpr-F (PlainElem W L) (PlainType W L) (PlainField W L) (PlainParam W L) (PlainSig W L) (PlainTerm W L)
+    → PlainSig W L
+sig_step s = signature (params_of s.params) (params_of s.results) s.at
+
+abbrev pub term_step : {W L : Type 0}
+    → TermExpr-F (PlainElem W L) (PlainType W L) (PlainField W L) (PlainParam W L) (PlainSig W L) (PlainTerm W L)
+    → PlainTerm W L
+term_step x = of_type x.tilde x.ty x.at
+
+-- ---- types as plain trees
+
+abbrev pub plain_type : {W L : Type 0} → (Ident → W) → (Token → L) → TypeExpr → PlainType W L
+plain_type {W} {L} word value x =
+    fold-TypeExpr (PlainElem W L) (PlainType W L) (PlainField W L) (PlainParam W L) (PlainSig W L) (PlainTerm W L)
+    (elem_step word) (type_step word value) (field_step word) (param_step word) sig_step term_step x
+
+abbrev pub plain_sig : {W L : Type 0} → (Ident → W) → (Token → L) → SigExpr → PlainSig W L
+plain_sig {W} {L} word value x =
+    fold-SigExpr (PlainElem W L) (PlainType W L) (PlainField W L) (PlainParam W L) (PlainSig W L) (PlainTerm W L)
+    (elem_step word) (type_step word value) (field_step word) (param_step word) sig_step term_step x
+
+abbrev pub plain_field : {W L : Type 0} → (Ident → W) → (Token → L) → FieldExpr → PlainField W L
+plain_field {W} {L} word value x =
+    fold-FieldExpr (PlainElem W L) (PlainType W L) (PlainField W L) (PlainParam W L) (PlainSig W L) (PlainTerm W L)
+    (elem_step word) (type_step word value) (field_step word) (param_step word) sig_step term_step x
+
+abbrev pub plain_param : {W L : Type 0} → (Ident → W) → (Token → L) → ParamExpr → PlainParam W L
+plain_param {W} {L} word value x =
+    fold-ParamExpr (PlainElem W L) (PlainType W L) (PlainField W L) (PlainParam W L) (PlainSig W L) (PlainTerm W L)
+    (elem_step word) (type_step word value) (field_step word) (param_step word) sig_step term_step x
+
+abbrev pub plain_elem : {W L : Type 0} → (Ident → W) → (Token → L) → ElemExpr → PlainElem W L
+plain_elem {W} {L} word value x =
+    fold-ElemExpr (PlainElem W L) (PlainType W L) (PlainField W L) (PlainParam W L) (PlainSig W L) (PlainTerm W L)
+    (elem_step word) (type_step word value) (field_step word) (param_step word) sig_step term_step x
+
+abbrev pub plain_term : {W L : Type 0} → (Ident → W) → (Token → L) → TermExpr → PlainTerm W L
+plain_term {W} {L} word value x =
+    fold-TermExpr (PlainElem W L) (PlainType W L) (PlainField W L) (PlainParam W L) (PlainSig W L) (PlainTerm W L)
+    (elem_step word) (type_step word value) (field_step word) (param_step word) sig_step term_step x
+
+-- with the spans of its identifiers and its literals' tokens
+abbrev pub spans_of_type : TypeExpr → PlainType Ident Token
+spans_of_type x = plain_type (λ i. i) (λ token. token) x
+
+abbrev pub spans_of_sig : SigExpr → PlainSig Ident Token
+spans_of_sig x = plain_sig (λ i. i) (λ token. token) x
+
+-- where a type begins
+abbrev pub type_start : TypeExpr → ℕ
+type_start x = type_place (spans_of_type x)

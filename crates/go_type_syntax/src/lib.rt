@@ -3,11 +3,13 @@
 
 mod elements;
 mod instances;
+mod laws;
 mod params;
 mod tree;
 mod types;
 
 pub use elements::union_type;
+pub use laws::{type_stands, type_start};
 pub use params::signature;
 pub use tree::{ElemExpr, FieldExpr, ParamExpr, SigExpr, TermExpr, TypeExpr};
 pub use types::type_expr;

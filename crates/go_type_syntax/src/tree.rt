@@ -1,3 +1,6 @@
+ghost use Rattle.std.specs.Prelude.{◌≡◌};
+ghost use Rattle.go_type_syntax.specs.PlainTypes.{type_start};
+
 use go_expr_syntax::{Expr, Ident, NameExpr};
 use go_values::Bytes;
 use sqlite_items::{Boxed, Items};
@@ -105,4 +108,25 @@ pub enum TypeExpr {
         terms: Items<TermExpr>,
         at: u32,
     },
+}
+
+impl TypeExpr {
+    /// Where the type begins: at its first token.
+    pub fn at(&self) -> u32
+        ensures { result ≡ type_start self.now }
+    {
+        match self {
+            TypeExpr::Name { at, .. }
+            | TypeExpr::Paren { at, .. }
+            | TypeExpr::Pointer { at, .. }
+            | TypeExpr::Slice { at, .. }
+            | TypeExpr::Array { at, .. }
+            | TypeExpr::MapOf { at, .. }
+            | TypeExpr::Chan { at, .. }
+            | TypeExpr::Func { at, .. }
+            | TypeExpr::Struct { at, .. }
+            | TypeExpr::Interface { at, .. }
+            | TypeExpr::Union { at, .. } => *at,
+        }
+    }
 }
