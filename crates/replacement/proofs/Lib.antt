@@ -1,0 +1,7 @@
+mod Fused
+mod ListLemmas
+mod RetypeLemmas
+mod SubstitutionLemmas
+mod SearchLemmas
+mod MoveLemmas
+mod MovingLemmas

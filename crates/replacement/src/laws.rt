@@ -1,0 +1,30 @@
+//! The laws of the definitions, as clauses of functions that do nothing.
+
+ghost use Rattle.std.specs.Prelude.{◌≡◌, List, ◌∷◌};
+ghost use Rattle.std.specs.List.{Contains};
+ghost use Rattle.go_values.specs.declared.qualified.QName.{QName as Name};
+ghost use Rattle.type_terms.specs.Parts.{Within};
+ghost use Rattle.type_terms.specs.Trees.{Tree, parameter, level_of};
+ghost use Rattle.replacement.specs.Substitution.{argument, replaced, substituted, level_replaced};
+
+/// A replacement goes by levels: it replaces what stands in a type, and what is no parameter of its own level stays.
+pub fn a_replacement_goes_by_levels()
+    ensures { (put : Name → Tree) (type : Tree) → replaced put type ≡ level_replaced put (level_of type) }
+{}
+
+/// A replacement touches no other parameter: a type with none of these parameters in it stays as it is.
+pub fn a_replacement_touches_no_other_parameter()
+    ensures { (ps : List Name) (args : List Tree) (type : Tree)
+        → ((q : Name) → Within type (parameter q) → Contains ps q → ⊥) → substituted ps args type ≡ type }
+{}
+
+/// What a replacement gives depends only on what it puts for the parameters that stand in the type.
+pub fn a_replacement_depends_on_its_parameters()
+    ensures { (put other : Name → Tree) (type : Tree) → ((q : Name) → Within type (parameter q) → put q ≡ other q)
+        → replaced put type ≡ replaced other type }
+{}
+
+/// Of equal parameters the first counts.
+pub fn the_first_of_equal_parameters_counts()
+    ensures { (p : Name) (ps : List Name) (arg : Tree) (args : List Tree) → argument (p ∷ ps) (arg ∷ args) p ≡ arg }
+{}
