@@ -1,4 +1,3 @@
-mod Fused
 mod ListLemmas
 mod RetypeLemmas
 mod SubstitutionLemmas

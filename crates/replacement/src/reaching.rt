@@ -4,10 +4,9 @@ ghost use Rattle.std.specs.Prelude.{◌≡◌, ◌<◌, ◌++◌, ◌∷◌, [],
 ghost use Rattle.type_terms.specs.Arenas.{AllBelow};
 ghost use Rattle.replacement.specs.Moves.{AreNodesOf, AreChildren, Joins};
 
-use crate::nodes::push_children;
 use std::alloc::{AllocError, Global};
 use std::collections::BTreeSet;
-use type_terms::{Arena, NodeId};
+use type_terms::{Arena, NodeId, push_children};
 
 /// The nodes of a type, each before those that stand in it: from the greatest number to the least. Takes time for
 /// them, for their uses, and for the logarithm of how many wait at once.
