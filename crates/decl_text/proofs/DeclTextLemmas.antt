@@ -16,7 +16,8 @@ use Rattle.decl_text.specs.Numbers.{Numbers, reference, number_all}
 use Rattle.decl_text.specs.NodeNumbers.{NodeNumbers, numbered_at, node_reference}
 use Rattle.decl_text.specs.DeclText.{first_line, number_line, number_lines, method_line, form_methods, numbers_of, described, text_with, decl_text}
 use Rattle.decl_text.specs.PieceText.{described_decl}
-use Rattle.decl_text.proofs.DeclFormLemmas.{form_types_map, form_twice}
+use Rattle.type_terms.specs.DeclarationLaws.{form_types_map}
+use Rattle.decl_text.proofs.DeclFormLemmas.{form_twice}
 
 pub rendered : (nodes : List Node) (q : QName) (decl : DeclNode) (numbers : NodeNumbers) (lines : List Text)
     → record { types = numbered_at nodes numbers; lines = lines } ≡ number_all (map (tree nodes) (decl_nodes decl))

@@ -1,7 +1,7 @@
 ghost use Rattle.std.specs.Prelude.{◌≡◌, ◌<◌, ◌++◌, ◌∷◌, [], ℕ, List, map, codes, if◌then◌else◌, OnOk};
 ghost use Rattle.std.specs.List.{flat_map};
 ghost use Rattle.type_terms.specs.Arenas.{AllBelow};
-ghost use Rattle.type_terms.specs.Declarations.{receiver_types, receiver_shape, decl_nodes};
+ghost use Rattle.type_terms.specs.Declarations.{decl_nodes};
 ghost use Rattle.type_terms.specs.NodeShapes.{sig_shape};
 ghost use Rattle.type_terms.specs.Shapes.{sig_types};
 ghost use Rattle.decl_text.specs.DeclText.{value_text, tparams_text, form_pos, form_text, form_methods, method_line};
@@ -12,74 +12,13 @@ ghost use Rattle.decl_text.specs.Referring.{refer, node_count};
 use crate::escapes::put_printed;
 use crate::methods::put_methods;
 use crate::naming::put_reference;
-use crate::pieces::push_all;
 use crate::references::References;
-use crate::signatures::{push_sig, put_sig};
+use crate::signatures::put_sig;
 use crate::types::{put_bracketed, put_prefixed};
 use crate::words::{put_mark, put_position, put_value};
 use go_values::{Const, Pos, QName};
 use std::alloc::AllocError;
-use type_terms::{DeclNode, Method, NodeId, Sig};
-
-/// Adds the types of a declaration, in reading order.
-pub fn push_decl(decl: &DeclNode, into: &mut Vec<NodeId>) -> Result<(), AllocError>
-    ensures { OnOk result (into.new.items ≡ into.old.items ++ decl_nodes decl.now) }
-{
-    match decl {
-        DeclNode::Var { ty, .. } | DeclNode::Constant { ty, .. } => push_type(*ty, into),
-        DeclNode::Func { tparams, sig, .. } => push_function(tparams.items(), sig, into),
-        DeclNode::Defined {
-            tparams,
-            underlying,
-            methods,
-            ..
-        } => push_defined(tparams.items(), *underlying, methods.items(), into),
-        DeclNode::Alias { tparams, ty, .. } => push_alias(tparams.items(), *ty, into),
-        DeclNode::Parameter { constraint, .. } => push_type(*constraint, into),
-    }
-}
-
-fn push_type(ty: NodeId, into: &mut Vec<NodeId>) -> Result<(), AllocError>
-    ensures { OnOk result (into.new.items ≡ into.old.items ++ ty ∷ []) }
-{
-    into.push(ty)?;
-    Ok(())
-}
-
-fn push_function(tparams: &[NodeId], sig: &Sig, into: &mut Vec<NodeId>) -> Result<(), AllocError>
-    ensures { OnOk result (into.new.items ≡ into.old.items ++ (tparams.now ++ sig_types (sig_shape sig.now))) }
-{
-    into.extend_from_slice(tparams)?;
-    push_sig(sig, into)
-}
-
-fn push_alias(tparams: &[NodeId], ty: NodeId, into: &mut Vec<NodeId>) -> Result<(), AllocError>
-    ensures { OnOk result (into.new.items ≡ into.old.items ++ (tparams.now ++ ty ∷ [])) }
-{
-    into.extend_from_slice(tparams)?;
-    push_type(ty, into)
-}
-
-fn push_defined(
-    tparams: &[NodeId],
-    underlying: NodeId,
-    methods: &[Method],
-    into: &mut Vec<NodeId>,
-) -> Result<(), AllocError>
-    ensures { OnOk result (into.new.items ≡ into.old.items
-        ++ (tparams.now ++ underlying ∷ flat_map receiver_types (map receiver_shape methods.now))) }
-{
-    push_alias(tparams, underlying, into)?;
-    push_methods(methods, into)
-}
-
-#[tactic(auto, using(crate::proofs::Fused::receivers_types))]
-fn push_methods(methods: &[Method], into: &mut Vec<NodeId>) -> Result<(), AllocError>
-    ensures { OnOk result (into.new.items ≡ into.old.items
-        ++ flat_map receiver_types (map receiver_shape methods.now)) }
-{
-    push_all(methods, into)
-}
+use type_terms::{DeclNode, NodeId, Sig};
 
 /// Adds the first line of a declaration.
 pub fn put_first_line(

@@ -9,10 +9,10 @@ ghost use Rattle.decl_text.specs.Referring.{refer, node_count};
 use crate::escapes::put_printed;
 use crate::pieces::{Piece, put_joined};
 use crate::references::References;
-use crate::signatures::{push_sig, put_sig};
+use crate::signatures::put_sig;
 use crate::words::put_position;
 use std::alloc::AllocError;
-use type_terms::{Method, NodeId};
+use type_terms::Method;
 
 impl Piece for Method {
     ghost use Rattle.type_terms.specs.Declarations.{receiver_types, receiver_shape};
@@ -32,11 +32,6 @@ impl Piece for Method {
         line.extend_from_slice(b") ")?;
         put_sig(line, &self.sig, names)?;
         line.extend_from_slice(b"\n")
-    }
-
-    fn push_types(&self, into: &mut Vec<NodeId>) -> Result<(), AllocError> {
-        into.push(self.recv.ty)?;
-        push_sig(&self.sig, into)
     }
 }
 

@@ -23,10 +23,6 @@ pub trait Piece {
     fn put(&self, line: &mut Vec<u8>, names: &References<'_>) -> Result<(), AllocError>
         requires there { AllBelow (node_count names.now) (types self.now) }
         ensures text { OnOk result (line.new.items ≡ line.old.items ++ text (refer names.now) self.now) };
-
-    /// Adds the types.
-    fn push_types(&self, into: &mut Vec<NodeId>) -> Result<(), AllocError>
-        ensures types { OnOk result (into.new.items ≡ into.old.items ++ types self.now) };
 }
 
 impl Piece for NodeId {
@@ -38,11 +34,6 @@ impl Piece for NodeId {
 
     fn put(&self, line: &mut Vec<u8>, names: &References<'_>) -> Result<(), AllocError> {
         put_reference(line, *self, names)
-    }
-
-    fn push_types(&self, into: &mut Vec<NodeId>) -> Result<(), AllocError> {
-        into.push(*self)?;
-        Ok(())
     }
 }
 
@@ -59,11 +50,6 @@ impl Piece for ParamNode {
         put_param_name(line, self.name.as_slice())?;
         line.extend_from_slice(b" ")?;
         put_reference(line, self.ty, names)
-    }
-
-    fn push_types(&self, into: &mut Vec<NodeId>) -> Result<(), AllocError> {
-        into.push(self.ty)?;
-        Ok(())
     }
 }
 
@@ -83,11 +69,6 @@ impl Piece for Field {
         put_reference(line, self.ty, names)?;
         put_tag(line, self.tag.as_slice())
     }
-
-    fn push_types(&self, into: &mut Vec<NodeId>) -> Result<(), AllocError> {
-        into.push(self.ty)?;
-        Ok(())
-    }
 }
 
 impl Piece for Term {
@@ -102,11 +83,6 @@ impl Piece for Term {
     fn put(&self, line: &mut Vec<u8>, names: &References<'_>) -> Result<(), AllocError> {
         put_mark(line, b"~", self.tilde)?;
         put_reference(line, self.ty, names)
-    }
-
-    fn push_types(&self, into: &mut Vec<NodeId>) -> Result<(), AllocError> {
-        into.push(self.ty)?;
-        Ok(())
     }
 }
 
@@ -142,14 +118,4 @@ pub fn put_between(
     } else {
         line.extend_from_slice(divider)
     }
-}
-
-/// Adds the types of some parts.
-pub fn push_all<T: Piece>(pieces: &[T], into: &mut Vec<NodeId>) -> Result<(), AllocError>
-    ensures { OnOk result (into.new.items ≡ into.old.items ++ flat_map T.types pieces.now) }
-{
-    for piece in pieces {
-        piece.push_types(into)?;
-    }
-    Ok(())
 }

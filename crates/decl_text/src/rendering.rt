@@ -4,14 +4,14 @@ ghost use Rattle.type_terms.specs.Declarations.{decl_nodes};
 ghost use Rattle.type_terms.specs.Declarations.{decl_of};
 ghost use Rattle.decl_text.specs.DeclText.{number_line, number_lines, decl_text};
 
-use crate::decls::{push_decl, put_first_line, put_method_lines};
+use crate::decls::{put_first_line, put_method_lines};
 use crate::references::References;
 use crate::walking::number_types;
 use crate::words::put_decimal;
 use go_values::{Bytes, QName};
 use indexmap::IndexSet;
 use std::alloc::{AllocError, Global};
-use type_terms::{Arena, DeclNode};
+use type_terms::{Arena, DeclNode, push_decl};
 
 /// The text of a declaration, whose types are nodes of the arena, with its line feeds: the first line, a line for each
 /// number, and a line for each method. It takes time for the types that are reached, their uses and the text, however

@@ -10,11 +10,11 @@ ghost use Rattle.decl_text.specs.Referring.{refer, node_count};
 
 use crate::escapes::put_printed;
 use crate::naming::put_reference;
-use crate::pieces::{Piece, push_all, put_between, put_joined};
+use crate::pieces::{Piece, put_between, put_joined};
 use crate::references::References;
 use crate::words::put_param_name;
 use std::alloc::AllocError;
-use type_terms::{IMethod, NodeId, ParamNode, Sig};
+use type_terms::{IMethod, ParamNode, Sig};
 
 /// Adds parameters and results.
 pub fn put_sig(line: &mut Vec<u8>, sig: &Sig, names: &References<'_>) -> Result<(), AllocError>
@@ -23,22 +23,6 @@ pub fn put_sig(line: &mut Vec<u8>, sig: &Sig, names: &References<'_>) -> Result<
 {
     put_params(line, sig.params.items(), sig.variadic, names)?;
     put_results(line, sig.results.items(), names)
-}
-
-/// Adds the types of parameters and results.
-pub fn push_sig(sig: &Sig, into: &mut Vec<NodeId>) -> Result<(), AllocError>
-    ensures { OnOk result (into.new.items ≡ into.old.items ++ sig_types (sig_shape sig.now)) }
-{
-    push_params(sig.params.items(), into)?;
-    push_params(sig.results.items(), into)
-}
-
-/// Adds the types of parameters or results.
-#[tactic(auto, using(crate::proofs::Fused::params_types))]
-fn push_params(params: &[ParamNode], into: &mut Vec<NodeId>) -> Result<(), AllocError>
-    ensures { OnOk result (into.new.items ≡ into.old.items ++ flat_map param_types (map param_shape params.now)) }
-{
-    push_all(params, into)
 }
 
 /// Adds parameters in parentheses.
@@ -155,9 +139,5 @@ impl Piece for IMethod {
     fn put(&self, line: &mut Vec<u8>, names: &References<'_>) -> Result<(), AllocError> {
         put_printed(line, self.name.as_slice())?;
         put_sig(line, &self.sig, names)
-    }
-
-    fn push_types(&self, into: &mut Vec<NodeId>) -> Result<(), AllocError> {
-        push_sig(&self.sig, into)
     }
 }

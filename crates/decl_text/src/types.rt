@@ -11,9 +11,9 @@ ghost use Rattle.decl_text.specs.Referring.{refer, node_count};
 
 use crate::escapes::put_printed;
 use crate::naming::put_reference;
-use crate::pieces::{push_all, put_between, put_joined};
+use crate::pieces::{put_between, put_joined};
 use crate::references::References;
-use crate::signatures::{push_sig, put_sig};
+use crate::signatures::put_sig;
 use crate::words::{basic_name, put_decimal, put_qualified};
 use std::alloc::AllocError;
 use type_terms::{Dir, Field, IMethod, Node, NodeId, Term};
