@@ -34,6 +34,7 @@ use Rattle.decl_reader.specs.Calls.{ahead_of}
 use Rattle.decl_reader.specs.Shapes.{flat_shape}
 use Rattle.decl_reader.specs.Opens.{IsBegun}
 use Rattle.decl_reader.proofs.ResumeLemmas.{begins}
+use Rattle.decl_reader.proofs.LeftLemmas.{begins_left}
 use Rattle.decl_reader.specs.Blocks.{Entry, table_of, HasRoom, IsStacked}
 use Rattle.decl_reader.specs.Opens.{HasArgument}
 
@@ -177,6 +178,7 @@ module _ (src : Sections) (holds : HoldsBytes src) (entries : List Entry) (stack
       let room : HasRoom offset (offset_of src (ahead_of block)) entries = room_free nodes offset (offset_of src (ahead_of block)) holder entries stacked read.some read.ends in
       let ends : offset_of src (ahead_of block) ≤ holder = omega (arith, read.ends, to_within) in
       let turn = begins src (length src.body) holder named done (Ok (flat_shape flat, ahead_of block)) large before (omega (arith, before, within)) none e in
+      let left = begins_left src (length src.body) holder named done (Ok (flat_shape flat, ahead_of block)) large before (omega (arith, before, within)) none e in
       subst (λ (x : Result (FlatParts × ℕ) ByteFault). IsBegun src done entries holder named (record { start = offset; own = x; mentions = block.mentions; known = 0; named = named })) (sym own_is)
       (record {
         fresh = refl;
@@ -192,6 +194,7 @@ module _ (src : Sections) (holds : HoldsBytes src) (entries : List Entry) (stack
         };
         below = (before, ends);
         turn = turn;
+        left = left;
       })
 
   pub begun_fault : (block : Block) (f : ByteFault) (own : Result (FlatParts × ℕ) ByteFault) → flat_at src (start (window src offset to)) ≡ Err (record { fault = f; mentions = block.mentions.items })
@@ -199,6 +202,7 @@ module _ (src : Sections) (holds : HoldsBytes src) (entries : List Entry) (stack
   begun_fault block f own e own_is =
       let few : length block.mentions.items ≤ length src.body = few_mentions src (strings_are src holds) (body_is src holds) offset to fits (record { fault = f; mentions = block.mentions.items }) e in
       let turn = begins src (length src.body) holder named done (Err (record { fault = f; mentions = block.mentions.items })) large before (omega (arith, before, within)) none e in
+      let left = begins_left src (length src.body) holder named done (Err (record { fault = f; mentions = block.mentions.items })) large before (omega (arith, before, within)) none e in
       subst (λ (x : Result (FlatParts × ℕ) ByteFault). IsBegun src done entries holder named (record { start = offset; own = x; mentions = block.mentions; known = 0; named = named })) (sym own_is)
       (record {
         fresh = refl;
@@ -214,6 +218,7 @@ module _ (src : Sections) (holds : HoldsBytes src) (entries : List Entry) (stack
         };
         below = (before, tt);
         turn = turn;
+        left = left;
       })
 
   -- the same at an offset that is this one

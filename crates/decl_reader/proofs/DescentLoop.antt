@@ -10,7 +10,11 @@ use Rattle.wire_bytes.specs.declared.fault.ReadFault.{ReadFault}
 use Rattle.wire_bytes.specs.declared.fault.ReadFault.TheVariants as reading
 use Rattle.wire_bytes.specs.Reading.{◌>>=◌}
 use Rattle.type_terms.specs.declared.descriptors.Node.{Node}
+use Rattle.type_terms.specs.Trees.{Tree}
 use Rattle.type_terms.specs.Arenas.{Contents, Extends}
+use Rattle.type_terms.specs.Extensions.{extends_itself}
+use Rattle.type_terms.specs.Additions.{Covers, AddsOnly, Outgrows}
+use Rattle.type_terms.specs.AdditionLaws.{covers_itself, adds_none, covers_left, covers_right, covers_again, adds_more, additions_join, outgrown_by_more, want_of_nodes_joins}
 use Rattle.decl_spelling.specs.declared.mention.Mention.{Mention}
 use Rattle.decl_spelling.specs.Sections.{Sections}
 use Rattle.decl_spelling.specs.Tables.{Table}
@@ -26,8 +30,11 @@ use Rattle.decl_reader.specs.declared.fault.DeclFault.TheVariants.{Bytes, Nodes,
 use Rattle.decl_reader.specs.Faults.{of_read}
 use Rattle.decl_reader.specs.Blocks.{Entry, table_of}
 use Rattle.decl_reader.specs.Frames.{closed, closed_by, resume}
-use Rattle.decl_reader.specs.Opens.{IsReady, IsOpen, IsOwn, IsBelow, IsBegun, IsClosed, EndsBefore, AreHolders, Begins, Resolves, reads, resumed, frame_of, holder_of, own_shape}
+use Rattle.decl_reader.specs.Opens.{IsReady, IsOpen, IsOwn, IsBelow, IsBegun, IsClosed, EndsBefore, AreHolders, Begins, Resolves, reads, resumed, left_resumed, frame_from, frame_of, holder_of, own_shape}
+use Rattle.decl_spelling.specs.Leaving.{if_well}
+use Rattle.decl_reader.specs.Left.{left_closed, left_opened, left_resume, leaves, left_type, left_types}
 use Rattle.decl_reader.proofs.ResumeLemmas.{turn_known, turn_fault, turn_opens, turn_closes}
+use Rattle.decl_reader.proofs.LeftLemmas.{onwards, left_turn_known, left_turn_opens, left_turn_closes, left_alone}
 
 -- one more of its mentions is known
 abbrev pub one_more : Open → Open
@@ -64,6 +71,23 @@ pub record Running (src : Sections) (first : Open) (done : Table) (old new : Con
   pub is_open : IsOpen src (table_of new.nodes entries) entries current
   pub holders_are : AreHolders src (table_of new.nodes entries) entries current holders
   pub same : resumed src current holders (table_of new.nodes entries) ≡ resumed src first [] done
+  pub covers : Covers (left_resumed src first [] done) (left_resumed src current holders (table_of new.nodes entries))
+  pub adds : AddsOnly (left_resumed src first [] done) old new
+
+-- nothing else is open at first
+pub running_begins : (src : Sections) (first : Open) (old : Contents) (entries : List Entry) (holders : List Open) → holders ≡ [] → IsReady (length src.body) (length old.nodes) entries → IsOpen src (table_of old.nodes entries) entries first
+    → Running src first (table_of old.nodes entries) old old entries first holders
+running_begins src first old entries holders none ready is_open =
+    subst (Running src first (table_of old.nodes entries) old old entries first) (sym none)
+    (record {
+      extends = extends_itself old;
+      ready = ready;
+      is_open = is_open;
+      holders_are = tt;
+      same = refl;
+      covers = covers_itself (left_resumed src first [] (table_of old.nodes entries));
+      adds = adds_none (left_resumed src first [] (table_of old.nodes entries)) old;
+    })
 
 -- the next mention
 more_is : (k : ℕ) → suc k ≡ k + 1
@@ -123,6 +147,9 @@ module _ (src : Sections) (first : Open) (done : Table) (old new : Contents) (en
     is_open = one_more_open running.is_open h known.1;
     holders_are = holders_for current (one_more current) holders refl (λ offset below. below) running.holders_are;
     same = sym (turn_known src (reads src) (frame_of current) (map holder_of holders) next rest now (left_is h) known.0) ∙ running.same;
+    covers = covers_again (left_resumed src first [] done) (left_resumed src current holders now) (left_resumed src (one_more current) holders now) running.covers
+        (left_turn_known src (reads src) (leaves src) (frame_of current) (map holder_of holders) next rest now (left_is h) known.0);
+    adds = running.adds;
   }
 
   -- a fault of the next mention
@@ -138,8 +165,13 @@ module _ (src : Sections) (first : Open) (done : Table) (old new : Contents) (en
     is_open = begun.is_open;
     holders_are = (running.is_open, h, left_is h ∙ ap (λ (m : Mention). m ∷ rest) (sym begun.its_mention), begun.below, running.holders_are);
     same = sym (turn_opens src (reads src) (frame_of current) (map holder_of holders) next rest now (frame_of inner) (left_is h) opened) ∙ running.same;
+    covers = subst (Covers (left_resumed src first [] done)) (left_turn_opens src (reads src) (leaves src) (frame_of current) (map holder_of holders) next rest now (frame_of inner) (left_is h) opened left) running.covers;
+    adds = running.adds;
   }
     where
+      left : left_type src current.start next now ≡ left_opened src (reads src) (leaves src) (frame_of inner) now
+      left = begun.left ∙ ap (λ (k : ℕ). left_opened src (reads src) (leaves src) (frame_from k inner) now) (sym begun.fresh)
+
       whole : drop inner.known inner.mentions.items ≡ inner.mentions.items
       whole = ap (λ (k : ℕ). drop k inner.mentions.items) begun.fresh
 
@@ -211,10 +243,31 @@ module _ (src : Sections) (first : Open) (done : Table) (old mid new : Contents)
       sym running.same ∙ turn_closes src (reads src) (frame_of current) (map holder_of holders) was (drop_all current.mentions.items current.known all)
       ∙ ap (λ (r : Result Table ByteFault). r >>= resume src (reads src) (map holder_of holders)) fault
 
+  -- what it leaves, and then what follows, is what is left
+  closing_covers : (holders : List Open) → Running src first done old mid before current holders → current.known ≡ length current.mentions.items
+      → Covers (left_resumed src first [] done) (onwards src (reads src) (leaves src) (frame_of current) (map holder_of holders) was)
+  closing_covers holders running all =
+      subst (Covers (left_resumed src first [] done)) (left_turn_closes src (reads src) (leaves src) (frame_of current) (map holder_of holders) was (drop_all current.mentions.items current.known all)) running.covers
+
+  its_own_covers : (holders : List Open) → Running src first done old mid before current holders → current.known ≡ length current.mentions.items → Covers (left_resumed src first [] done) (left_closed src.version (frame_of current) was)
+  its_own_covers holders running all =
+      covers_again (left_resumed src first [] done) (onwards src (reads src) (leaves src) (frame_of current) (map holder_of holders) was) (left_closed src.version (frame_of current) was) (closing_covers holders running all)
+      (covers_left (left_closed src.version (frame_of current) was) (if_well (closed src.version (frame_of current) was) (left_resume src (reads src) (leaves src) (map holder_of holders))))
+
+  pub closing_adds : (holders : List Open) → Running src first done old mid before current holders → current.known ≡ length current.mentions.items → AddsOnly (left_closed src.version (frame_of current) was) mid new
+      → AddsOnly (left_resumed src first [] done) old new
+  closing_adds holders running all adds =
+      additions_join old mid new (left_resumed src first [] done) running.adds extended (adds_more (left_resumed src first [] done) (left_closed src.version (frame_of current) was) mid new (its_own_covers holders running all) adds)
+
+  pub closing_outgrown : (holders : List Open) → Running src first done old mid before current holders → current.known ≡ length current.mentions.items → Outgrows mid (left_closed src.version (frame_of current) was)
+      → Outgrows old (left_resumed src first [] done)
+  closing_outgrown holders running all outgrown =
+      want_of_nodes_joins old mid (left_resumed src first [] done) running.extends running.adds (outgrown_by_more mid (left_resumed src first [] done) (left_closed src.version (frame_of current) was) (its_own_covers holders running all) outgrown)
+
   -- its holder goes on
   pub returns_to : (holder : Open) (holders : List Open) → Running src first done old mid before current (holder ∷ holders) → current.known ≡ length current.mentions.items → closed src.version (frame_of current) was ≡ Ok is_now
-      → IsClosed src was is_now before after current → Running src first done old new after (one_more holder) holders
-  returns_to holder holders running all finished is_closed =
+      → IsClosed src was is_now before after current → AddsOnly (left_closed src.version (frame_of current) was) mid new → Running src first done old new after (one_more holder) holders
+  returns_to holder holders running all finished is_closed adds =
       let are = running.holders_are in
       let stays : IsOpen src is_now after holder = open_stays holder is_closed are.3 are.0 in
       let named : slice_index_or holder.mentions.items holder.known current.named ≡ current.named
@@ -228,6 +281,10 @@ module _ (src : Sections) (first : Open) (done : Table) (old mid new : Contents)
             sym (turn_closes src (reads src) (frame_of current) (holder_of holder ∷ map holder_of holders) was (drop_all current.mentions.items current.known all)
             ∙ ap (λ (r : Result Table ByteFault). r >>= resume src (reads src) (holder_of holder ∷ map holder_of holders)) finished)
             ∙ running.same;
+        covers = covers_again (left_resumed src first [] done) (left_closed src.version (frame_of current) was ++ left_resume src (reads src) (leaves src) (holder_of holder ∷ map holder_of holders) is_now) (left_resumed src (one_more holder) holders is_now)
+            (subst (λ (r : Result Table ByteFault). Covers (left_resumed src first [] done) (left_closed src.version (frame_of current) was ++ if_well r (left_resume src (reads src) (leaves src) (holder_of holder ∷ map holder_of holders)))) finished (closing_covers (holder ∷ holders) running all))
+            (covers_right (left_closed src.version (frame_of current) was) (left_resume src (reads src) (leaves src) (holder_of holder ∷ map holder_of holders) is_now));
+        adds = closing_adds (holder ∷ holders) running all adds;
       }
     where
       head_is : {x y : Mention} {xs ys : List Mention} → x ∷ xs ≡ y ∷ ys → x ≡ y
@@ -334,6 +391,13 @@ begun_is src done entries holder named inner begun =
     ∙ ap (λ (m : Mention). resolve_all src (reads src) inner.start inner.mentions.items done >>= closed_by src.version inner.start m (own_shape inner.own)) begun.its_mention
     ∙ sym begun.turn
 
+-- and leaves what its mention does
+pub begun_left : (src : Sections) (done : Table) (entries : List Entry) (holder : ℕ) (named : Mention) (inner : Open) → IsBegun src done entries holder named inner → left_resumed src inner [] done ≡ left_type src holder named done
+begun_left src done entries holder named inner begun =
+    left_alone src (reads src) (leaves src) (frame_of inner) done
+    ∙ ap (λ (k : ℕ). left_opened src (reads src) (leaves src) (frame_from k inner) done) begun.fresh
+    ∙ sym begun.left
+
 pub resolves_as : (r : Result (Unit {0}) DeclFault) (t : Table) (a b : Result Table ByteFault) → a ≡ b → Resolves r t a → Resolves r t b
 resolves_as r t a b same is = subst (λ (x : Result Table ByteFault). Resolves r t x) same is
 
@@ -341,6 +405,8 @@ pub record Reading (src : Sections) (holder : ℕ) (mentions : List Mention) (do
   pub extends : Extends old new
   pub ready : IsReady (length src.body) (length new.nodes) entries
   pub same : resolve_all src (reads src) holder (drop index mentions) (table_of new.nodes entries) ≡ resolve_all src (reads src) holder mentions done
+  pub covers : Covers (left_types src holder mentions done) (left_types src holder (drop index mentions) (table_of new.nodes entries))
+  pub adds : AddsOnly (left_types src holder mentions done) old new
 
 module _ (src : Sections) (holder : ℕ) (mentions : List Mention) (done : Table) (old mid : Contents) (before : List Entry) (index : ℕ) (d : Mention) (reading : Reading src holder mentions done old mid before index) (h : index < length mentions) where
   abbrev mention : Mention
@@ -349,9 +415,31 @@ module _ (src : Sections) (holder : ℕ) (mentions : List Mention) (done : Table
   first_of : resolve_all src (reads src) holder (drop index mentions) (table_of mid.nodes before) ≡ (resolve src (reads src) holder mention (table_of mid.nodes before) >>= resolve_all src (reads src) holder (drop (index + 1) mentions))
   first_of = ap (λ (ms : List Mention). resolve_all src (reads src) holder ms (table_of mid.nodes before)) (next_is mentions index d h)
 
-  pub reads_on : (new : Contents) (after : List Entry) → Extends mid new → IsReady (length src.body) (length new.nodes) after → resolve src (reads src) holder mention (table_of mid.nodes before) ≡ Ok (table_of new.nodes after)
+  abbrev whole : List Tree
+  whole = left_types src holder mentions done
+
+  abbrev here : List Tree
+  here = left_type src holder mention (table_of mid.nodes before)
+
+  abbrev later : Table → List Tree
+  later known = left_types src holder (drop (index + 1) mentions) known
+
+  first_covers : Covers whole (here ++ if_well (resolve src (reads src) holder mention (table_of mid.nodes before)) later)
+  first_covers = subst (Covers whole) (ap (λ (ms : List Mention). left_types src holder ms (table_of mid.nodes before)) (next_is mentions index d h)) reading.covers
+
+  here_covers : Covers whole here
+  here_covers = covers_again whole (here ++ if_well (resolve src (reads src) holder mention (table_of mid.nodes before)) later) here first_covers (covers_left here (if_well (resolve src (reads src) holder mention (table_of mid.nodes before)) later))
+
+  -- what the mention adds, and that it wants a node, is so of all
+  pub mention_adds : (new : Contents) → Extends mid new → AddsOnly here mid new → AddsOnly whole old new
+  mention_adds new extended adds = additions_join old mid new whole reading.adds extended (adds_more whole here mid new here_covers adds)
+
+  pub mention_outgrown : Outgrows mid here → Outgrows old whole
+  mention_outgrown outgrown = want_of_nodes_joins old mid whole reading.extends reading.adds (outgrown_by_more mid whole here here_covers outgrown)
+
+  pub reads_on : (new : Contents) (after : List Entry) → Extends mid new → IsReady (length src.body) (length new.nodes) after → resolve src (reads src) holder mention (table_of mid.nodes before) ≡ Ok (table_of new.nodes after) → AddsOnly here mid new
       → Reading src holder mentions done old new after (index + 1)
-  reads_on new after extended ready known = record {
+  reads_on new after extended ready known adds = record {
     extends = record {
       more = reading.extends.more ++ extended.more;
       nodes = extended.nodes ∙ ap (λ (ns : List Node). ns ++ extended.more) reading.extends.nodes ∙ append_assoc old.nodes reading.extends.more extended.more;
@@ -359,6 +447,8 @@ module _ (src : Sections) (holder : ℕ) (mentions : List Mention) (done : Table
     };
     ready = ready;
     same = sym (first_of ∙ ap (λ (r : Result Table ByteFault). r >>= resolve_all src (reads src) holder (drop (index + 1) mentions)) known) ∙ reading.same;
+    covers = covers_again whole (here ++ later (table_of new.nodes after)) (later (table_of new.nodes after)) (subst (λ (r : Result Table ByteFault). Covers whole (here ++ if_well r later)) known first_covers) (covers_right here (later (table_of new.nodes after)));
+    adds = mention_adds new extended adds;
   }
 
   pub reading_stops : (e : DeclFault) (t : Table) → Resolves (Err e) t (resolve src (reads src) holder mention (table_of mid.nodes before)) → Resolves (Err e) t (resolve_all src (reads src) holder mentions done)

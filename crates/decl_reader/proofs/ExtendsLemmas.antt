@@ -73,3 +73,7 @@ none_left (x ∷ xs) h = absurd (omega arith)
 pub numbers_below : (size : ℕ) (ids : List ℕ) → AllBelow size (flat_map (λ (id : ℕ). id ∷ []) (map (λ (id : ℕ). id) ids)) → AllBelow size ids
 numbers_below size [] below = tt
 numbers_below size (id ∷ ids) below = (below.0, numbers_below size ids below.1)
+
+pub numbers_are : (numbers : List ℕ) → flat_map (λ (number : ℕ). number ∷ []) (map (λ (number : ℕ). number) numbers) ≡ numbers
+numbers_are [] = refl
+numbers_are (number ∷ numbers) = ap (λ (rest : List ℕ). number ∷ rest) (numbers_are numbers)

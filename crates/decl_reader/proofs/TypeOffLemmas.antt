@@ -1,7 +1,7 @@
 -- What a typeOff of a descriptor names.
-use Rattle.std.proofs.Common.{◌≡◌, ℕ, ◌+◌, ◌-◌, false, cond, nat_lt, Some, None, ◌∙◌, sym, ap, arith}
+use Rattle.std.proofs.Common.{◌≡◌, ℕ, ◌+◌, ◌-◌, ◌<◌, false, cond, nat_lt, Some, None, ◌∙◌, sym, ap, arith}
 use Rattle.std.specs.Prelude.{option_map}
-use Rattle.std.proofs.lemmas.Bool.{le-ltb}
+use Rattle.std.proofs.lemmas.Bool.{le-ltb, lt-ltb}
 use Rattle.code_tables.specs.declared.predeclared.Basic.TheVariants.{Bool as bool_type}
 use Rattle.type_terms.specs.Trees.{predeclared}
 use Rattle.decl_spelling.specs.Sections.{Sections}
@@ -31,3 +31,8 @@ module _ (number offset : ℕ) (is : number ≡ 32 + offset) where
   -- a number of a descriptor that isn't there names some type
   pub none_is : (version : ℕ) (done : Table) → None ≡ at done offset → type_named version done number ≡ predeclared bool_type
   none_is version done none = type_is version done ∙ ap finished_tree (sym none)
+
+-- the number of a predeclared type
+pub basic_is : (number code version : ℕ) (done : Table) → number ≡ code → code < 32 → basic_tree (basic_of version code) ≡ type_named version done number
+basic_is number code version done is small =
+    ap (λ (n : ℕ). basic_tree (basic_of version n)) (sym is) ∙ sym (ap (λ b. cond b (basic_tree (basic_of version number)) (finished_tree (at done (number - 32)))) (lt-ltb number 32 (omega (arith, is, small))))

@@ -87,7 +87,7 @@ value_then src basics pos type at a done =
 
 module _ (src : Sections) (basics : Basics) (offset : ℕ) where
   -- the two parts of a declaration
-  abbrev first_part : Result ((Head × Ahead) × Table) ByteFault
+  abbrev pub first_part : Result ((Head × Ahead) × Table) ByteFault
   first_part = resolved src offset (head_at src (start (window src offset (length src.body)))) []
 
   pub first_faults : (e : DeclFault) → FaultIs e first_part → FaultIs e (decl_at src basics offset)

@@ -7,6 +7,7 @@ pub mod Forms
 pub mod Leads
 pub mod Blocks
 pub mod Frames
+pub mod Left
 pub mod Opens
 pub mod Progress
 pub mod Meant

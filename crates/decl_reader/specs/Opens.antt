@@ -24,6 +24,7 @@ use Rattle.decl_reader.specs.declared.fault.DeclFault.TheVariants.{Bytes, Nodes,
 use Rattle.decl_reader.specs.Shapes.{flat_shape}
 use Rattle.decl_reader.specs.Blocks.{Entry, AllInside, EndsBy, HasRoom, IsStacked, bytes_of}
 use Rattle.decl_reader.specs.Frames.{Frame, closed_by, resume}
+use Rattle.decl_reader.specs.Left.{left_opened, left_resume, left_type, leaves}
 
 -- the nodes of the table are in the arena, and its blocks are in order and in the data section
 pub record IsReady (limit size : ℕ) (entries : List Entry) : Type 0 where
@@ -109,6 +110,10 @@ abbrev pub opened : Sections → Mention → Open → Table → Result Table Byt
 opened src named o done =
     resolve_all src (reads src) o.start o.mentions.items done >>= closed_by src.version o.start named (own_shape o.own)
 
+-- all of its mentions are still to be known
+abbrev pub fresh_of : Open → Frame
+fresh_of o = frame_from 0 o
+
 -- a descriptor that was just opened for a holder, and what reading its types comes to for the mention that named it
 pub record IsBegun (src : Sections) (done : Table) (entries : List Entry) (holder : ℕ) (named : Mention) (o : Open) :
     Type 0 where
@@ -117,6 +122,7 @@ pub record IsBegun (src : Sections) (done : Table) (entries : List Entry) (holde
   pub is_open : IsOpen src done entries o
   pub below : IsBelow o holder
   pub turn : resolve src (reads src) holder named done ≡ opened src named o done
+  pub left : left_type src holder named done ≡ left_opened src (reads src) (leaves src) (fresh_of o) done
 
 -- what a mention needs: nothing more, or a descriptor that was opened
 abbrev pub Begins : Sections → Table → List Entry → ℕ → Mention → Result (Option Open) ReadFault → Type 0
@@ -143,6 +149,11 @@ AreHolders src done entries inner (o ∷ os) =
 
 abbrev pub resumed : Sections → Open → List Open → Table → Result Table ByteFault
 resumed src first holders done = resume src (reads src) (frame_of first ∷ map holder_of holders) done
+
+-- what is left of reading on from there
+abbrev pub left_resumed : Sections → Open → List Open → Table → List Tree
+left_resumed src first holders done =
+    left_resume src (reads src) (leaves src) (frame_of first ∷ map holder_of holders) done
 
 -- ---- whether a type that is known is what its holder asks for
 

@@ -2,6 +2,7 @@
 
 ghost use Rattle.std.specs.Prelude.{◌≡◌, ◌+◌, ◌<◌, ◌≤◌, [], length, IfOk, IsErrOf};
 ghost use Rattle.file_parts.specs.FileParts.{IsOfFile};
+ghost use Rattle.type_terms.specs.Additions.{AddsOnly, Outgrows};
 ghost use Rattle.type_terms.specs.Arenas.{AllBelow, Extends};
 ghost use Rattle.type_terms.specs.Declarations.{decl_nodes};
 ghost use Rattle.type_terms.specs.DeclarationRules.{IsProperDecl};
@@ -9,6 +10,7 @@ ghost use Rattle.type_terms.specs.Declarations.{decl_of};
 ghost use Rattle.decl_spelling.specs.Sections.{HoldsBytes, window};
 ghost use Rattle.decl_spelling.specs.Reading.{start};
 ghost use Rattle.decl_spelling.specs.Declarations.{head_at, resolved, after_head, decl_at, FirstFault};
+ghost use Rattle.decl_spelling.specs.Leaving.{left_by_part, left_after_head, types_read};
 ghost use Rattle.decl_spelling.specs.Spelling.{SpellsDecl};
 ghost use Rattle.decl_reader.specs.Calls.{sections_of, ahead_of};
 ghost use Rattle.decl_reader.specs.Forms.{head_shape};
@@ -36,8 +38,8 @@ use wire_bytes::ReadFault;
 /// Reads the declaration at an offset of the data section of a full file or a bundle, or answers the first fault in
 /// reading order. A declaration is read from left to right; a descriptor is read where it is first named, once, and
 /// stands wholly before the block that names it. docs/FORMAT.md has the rules, "Declarations". The nodes of its types
-/// are added to the arena, also where a fault is met behind them. `Nodes` comes only where the arena is full. What is
-/// read keeps the rules of declarations of environments.
+/// are added to the arena, also where a fault is met behind them. `Nodes` comes only where the arena has no room for
+/// the types that are read. What is read keeps the rules of declarations of environments.
 ///
 /// One step is one byte of the data section read: those of each descriptor that it reaches, once, and its own. It takes
 /// time near linear in them, and memory by the descriptors.
@@ -51,6 +53,7 @@ pub fn read_decl<B: Basics, L: Ledger>(
 ) -> Result<DeclNode, DeclFault>
     requires of_file { IsOfFile parts.now }
     requires inside { offset < parts.now.body_len }
+    ensures bytes { HoldsBytes (sections_of parts.now) }
     ensures found { IfOk result
         (λ node. SpellsDecl (sections_of parts.now) (B.meaning basics.now) offset (decl_of arena.new.nodes node)) }
     ensures fault { IfFault result (FirstFault (sections_of parts.now) (B.meaning basics.now) offset) }
@@ -60,6 +63,9 @@ pub fn read_decl<B: Basics, L: Ledger>(
     ensures at_most { steps.new ≤ steps.old + parts.now.body_len }
     ensures within { IfOk result (λ node. AllBelow (length arena.new.nodes) (decl_nodes node)) }
     ensures extends { Extends arena.old arena.new }
+    ensures adds { AddsOnly (types_read (sections_of parts.now) (B.meaning basics.now) offset) arena.old arena.new }
+    ensures outgrown { IsErrOf result DeclFault.Nodes
+        → Outgrows arena.old (types_read (sections_of parts.now) (B.meaning basics.now) offset) }
     ensures full { IsErrOf result DeclFault.Nodes → length arena.new.nodes ≡ arena.new.limit }
 {
     let mut table = Table::new(alloc);
@@ -93,7 +99,12 @@ impl<L: Ledger> Reading<'_, L> {
             self.old.steps.now self.new.steps.now }
         ensures at_most { self.new.steps.now ≤ self.old.steps.now + parts.now.body_len }
         ensures within { IfOk result (λ node. AllBelow (length self.new.arena.now.nodes) (decl_nodes node)) }
-        ensures adds { Adds self.old result self.new }
+        ensures adds { AddsOnly
+            (types_read (sections_of parts.now) (B.meaning basics.now) offset)
+            self.old.arena.now self.new.arena.now }
+        ensures outgrown { IsErrOf result DeclFault.Nodes → Outgrows self.old.arena.now
+            (types_read (sections_of parts.now) (B.meaning basics.now) offset) }
+        ensures going { Adds self.old result self.new }
     {
         let head = self.read_head_types(parts, offset, block)?;
         let whole = self.read_rest(parts, offset, head, basics, block)?;
@@ -115,6 +126,13 @@ impl<L: Ledger> Reading<'_, L> {
         ensures exact { IsPart head_shape result (ahead_of block.new) (known self.new)
             (resolved (sections_of parts.now) offset (head_at (sections_of parts.now) (ahead_of block.old))
             (known self.old)) }
+        ensures adds { AddsOnly
+            (left_by_part (sections_of parts.now) offset
+            (head_at (sections_of parts.now) (ahead_of block.old)) (known self.old))
+            self.old.arena.now self.new.arena.now }
+        ensures outgrown { IsErrOf result DeclFault.Nodes → Outgrows self.old.arena.now
+            (left_by_part (sections_of parts.now) offset
+            (head_at (sections_of parts.now) (ahead_of block.old)) (known self.old)) }
         ensures goes_on { GoesOn parts.now self.old result self.new }
     {
         match read_declaration_head(self.alloc, parts, block) {
@@ -146,6 +164,11 @@ impl<L: Ledger> Reading<'_, L> {
         ensures exact { IsWhole result (ahead_of block.new) (known self.new)
             (after_head (sections_of parts.now) (B.meaning basics.now) offset (head_shape head) (ahead_of block.old)
             (known self.old)) }
+        ensures adds { AddsOnly
+            (left_after_head (sections_of parts.now) offset (head_shape head) (ahead_of block.old) (known self.old))
+            self.old.arena.now self.new.arena.now }
+        ensures outgrown { IsErrOf result DeclFault.Nodes → Outgrows self.old.arena.now
+            (left_after_head (sections_of parts.now) offset (head_shape head) (ahead_of block.old) (known self.old)) }
         ensures goes_on { GoesOn parts.now self.old result self.new }
     {
         match head {

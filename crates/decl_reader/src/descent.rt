@@ -1,8 +1,9 @@
 //! Reading the types that a block names. The descriptors that are open stand on a list, not on the call stack, so a
 //! chain of any length is read.
 
-ghost use Rattle.std.specs.Prelude.{◌≡◌, ◌+◌, ◌-◌, ◌<◌, ◌≤◌, List, [], Err, None, length, IfOk, OnOk};
+ghost use Rattle.std.specs.Prelude.{◌≡◌, ◌+◌, ◌-◌, ◌<◌, ◌≤◌, List, [], Ok, Err, None, length, IfOk, IsErrOf, OnOk};
 ghost use Rattle.type_terms.specs.declared.descriptors.Node.{Node};
+ghost use Rattle.type_terms.specs.Additions.{AddsOnly, Outgrows};
 ghost use Rattle.type_terms.specs.Denotation.{tree};
 ghost use Rattle.file_parts.specs.FileParts.{IsOfFile, body_of};
 ghost use Rattle.decl_spelling.specs.Tables.{at};
@@ -13,8 +14,9 @@ ghost use Rattle.decl_reader.specs.Blocks.{table_of, finished_of, HasRoom};
 ghost use Rattle.decl_reader.specs.Meant.{IsGenericFlat};
 ghost use Rattle.decl_reader.specs.Shapes.{flat_shape};
 ghost use Rattle.decl_reader.specs.Frames.{answered, closed, with_shape};
+ghost use Rattle.decl_reader.specs.Left.{left_closed, left_closed_by, left_type, left_types};
 ghost use Rattle.decl_reader.specs.Opens.{resolve_type, resolve_types, frame_of, IsOpen, IsBegun, IsClosed, IsFinished};
-ghost use Rattle.decl_reader.specs.Opens.{Resolves, Begins, resumed};
+ghost use Rattle.decl_reader.specs.Opens.{Resolves, Begins, resumed, left_resumed};
 ghost use Rattle.decl_reader.specs.Opens.{checked_basic, checked_type, checked_finished};
 ghost use Rattle.decl_reader.specs.Progress.{known, IsReadyFor, GoesOn};
 
@@ -60,6 +62,10 @@ impl<L: Ledger> Reading<'_, L> {
         requires within { holder ≤ parts.now.body_len }
         ensures exact { Resolves result (known self.new)
             (resolve_types (sections_of parts.now) holder mentions.now (known self.old)) }
+        ensures adds { AddsOnly (left_types (sections_of parts.now) holder mentions.now (known self.old))
+            self.old.arena.now self.new.arena.now }
+        ensures outgrown { IsErrOf result DeclFault.Nodes → Outgrows self.old.arena.now
+            (left_types (sections_of parts.now) holder mentions.now (known self.old)) }
         ensures goes_on { GoesOn parts.now self.old result self.new }
     {
         for mention in mentions {
@@ -75,6 +81,10 @@ impl<L: Ledger> Reading<'_, L> {
         requires within { holder ≤ parts.now.body_len }
         ensures exact { Resolves result (known self.new)
             (resolve_type (sections_of parts.now) holder named (known self.old)) }
+        ensures adds { AddsOnly (left_type (sections_of parts.now) holder named (known self.old))
+            self.old.arena.now self.new.arena.now }
+        ensures outgrown { IsErrOf result DeclFault.Nodes → Outgrows self.old.arena.now
+            (left_type (sections_of parts.now) holder named (known self.old)) }
         ensures goes_on { GoesOn parts.now self.old result self.new }
     {
         match self.begin(parts, holder, named)? {
@@ -89,6 +99,10 @@ impl<L: Ledger> Reading<'_, L> {
         requires ready { IsReadyFor parts.now self.old }
         requires first { IsOpen (sections_of parts.now) (known self.old) self.old.table.now first }
         ensures exact { Resolves result (known self.new) (resumed (sections_of parts.now) first [] (known self.old)) }
+        ensures adds { AddsOnly (left_resumed (sections_of parts.now) first [] (known self.old))
+            self.old.arena.now self.new.arena.now }
+        ensures outgrown { IsErrOf result DeclFault.Nodes → Outgrows self.old.arena.now
+            (left_resumed (sections_of parts.now) first [] (known self.old)) }
         ensures goes_on { GoesOn parts.now self.old result self.new }
     {
         let mut holders: Vec<Open> = Vec::new(self.alloc);
@@ -199,6 +213,10 @@ impl<L: Ledger> Reading<'_, L> {
         requires is_open { IsOpen (sections_of parts.now) (known self.old) self.old.table.now block }
         requires all { block.known ≡ length block.mentions.items }
         ensures exact { Resolves result (known self.new) (closed parts.now.version (frame_of block) (known self.old)) }
+        ensures adds { AddsOnly (left_closed parts.now.version (frame_of block) (known self.old))
+            self.old.arena.now self.new.arena.now }
+        ensures outgrown { IsErrOf result DeclFault.Nodes → Outgrows self.old.arena.now
+            (left_closed parts.now.version (frame_of block) (known self.old)) }
         ensures closed { OnOk result
             (IsClosed (sections_of parts.now) (known self.old) (known self.new) self.old.table.now self.new.table.now
             block) }
@@ -235,6 +253,10 @@ impl<L: Ledger> Reading<'_, L> {
         ensures exact { Resolves result (known self.new)
             (answered parts.now.version named
             (with_shape parts.now.version start (flat_shape flat, end) (known self.old))) }
+        ensures adds { AddsOnly (left_closed_by parts.now.version (Ok (flat_shape flat, end)) (known self.old))
+            self.old.arena.now self.new.arena.now }
+        ensures outgrown { IsErrOf result DeclFault.Nodes → Outgrows self.old.arena.now
+            (left_closed_by parts.now.version (Ok (flat_shape flat, end)) (known self.old)) }
         ensures finished { OnOk result
             (IsFinished (sections_of parts.now) (known self.old) (known self.new) self.old.table.now self.new.table.now
             named end) }

@@ -1,13 +1,15 @@
 //! The methods of a defined type.
 
-ghost use Rattle.std.specs.Prelude.{◌≡◌, ◌≤◌, ℕ, length, map};
+ghost use Rattle.std.specs.Prelude.{◌≡◌, ◌≤◌, ℕ, length, map, IsErrOf};
 ghost use Rattle.file_parts.specs.FileParts.{IsOfFile};
+ghost use Rattle.type_terms.specs.Additions.{AddsOnly, Outgrows};
 ghost use Rattle.type_terms.specs.NodeShapes.{node_shape};
 ghost use Rattle.type_terms.specs.Shapes.{retype};
 ghost use Rattle.type_terms.specs.Trees.{Tree, tree_of};
 ghost use Rattle.decl_spelling.specs.Reading.{list_at};
 ghost use Rattle.decl_spelling.specs.Tables.{type_named};
 ghost use Rattle.decl_spelling.specs.Declarations.{has_methods, receiver_at, resolved};
+ghost use Rattle.decl_spelling.specs.Leaving.{left_by_part, left_by_methods};
 ghost use Rattle.decl_reader.specs.Calls.{sections_of, ahead_of};
 ghost use Rattle.decl_reader.specs.Blocks.{AllInside, table_of};
 ghost use Rattle.decl_reader.specs.Forms.{receiver_shape};
@@ -42,6 +44,13 @@ impl<L: Ledger> Reading<'_, L> {
         ensures exact { IsPart (λ v. map receiver_shape v.items) result (ahead_of block.new) (known self.new)
             (methods_by (sections_of parts.now) offset (ahead_of block.old) (known self.old)
             (has_methods (type_named parts.now.version (known self.old) underlying))) }
+        ensures adds { AddsOnly
+            (left_by_methods (sections_of parts.now) offset (ahead_of block.old) (known self.old)
+            (has_methods (type_named parts.now.version (known self.old) underlying)))
+            self.old.arena.now self.new.arena.now }
+        ensures outgrown { IsErrOf result DeclFault.Nodes → Outgrows self.old.arena.now
+            (left_by_methods (sections_of parts.now) offset (ahead_of block.old) (known self.old)
+            (has_methods (type_named parts.now.version (known self.old) underlying))) }
         ensures goes_on { GoesOn parts.now self.old result self.new }
     {
         if has_methods(parts.version, underlying, self.table, self.arena) {
@@ -63,6 +72,13 @@ impl<L: Ledger> Reading<'_, L> {
         requires within { offset ≤ parts.now.body_len }
         ensures exact { IsPart (λ v. map receiver_shape v.items) result (ahead_of block.new) (known self.new)
             (resolved (sections_of parts.now) offset
+            (list_at (receiver_at (sections_of parts.now)) (ahead_of block.old)) (known self.old)) }
+        ensures adds { AddsOnly
+            (left_by_part (sections_of parts.now) offset
+            (list_at (receiver_at (sections_of parts.now)) (ahead_of block.old)) (known self.old))
+            self.old.arena.now self.new.arena.now }
+        ensures outgrown { IsErrOf result DeclFault.Nodes → Outgrows self.old.arena.now
+            (left_by_part (sections_of parts.now) offset
             (list_at (receiver_at (sections_of parts.now)) (ahead_of block.old)) (known self.old)) }
         ensures goes_on { GoesOn parts.now self.old result self.new }
     {

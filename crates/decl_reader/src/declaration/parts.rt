@@ -1,7 +1,9 @@
 //! A part of a declaration's own bytes, and then the types that it names.
 
-ghost use Rattle.std.specs.Prelude.{◌≡◌, ◌≤◌, OnOk};
+ghost use Rattle.std.specs.Prelude.{◌≡◌, ◌≤◌, OnOk, IsErrOf};
 ghost use Rattle.file_parts.specs.FileParts.{IsOfFile};
+ghost use Rattle.type_terms.specs.Additions.{AddsOnly, Outgrows};
+ghost use Rattle.decl_spelling.specs.Leaving.{left_by_named};
 ghost use Rattle.decl_reader.specs.Calls.{sections_of, ahead_of};
 ghost use Rattle.decl_reader.specs.Opens.{Resolves};
 ghost use Rattle.decl_reader.specs.Progress.{known, IsReadyFor, GoesOn};
@@ -27,6 +29,11 @@ impl<L: Ledger> Reading<'_, L> {
         ensures exact { Resolves result (known self.new)
             (types_before (sections_of parts.now) offset block.old.mentions.items (known self.old)) }
         ensures known { OnOk result (ahead_of block.new ≡ all_known (ahead_of block.old)) }
+        ensures adds { AddsOnly
+            (left_by_named (sections_of parts.now) offset block.old.mentions.items (known self.old))
+            self.old.arena.now self.new.arena.now }
+        ensures outgrown { IsErrOf result DeclFault.Nodes → Outgrows self.old.arena.now
+            (left_by_named (sections_of parts.now) offset block.old.mentions.items (known self.old)) }
         ensures goes_on { GoesOn parts.now self.old result self.new }
     {
         self.read_types(parts, offset, block.mentions.as_slice())?;

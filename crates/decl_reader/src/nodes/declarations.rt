@@ -1,9 +1,9 @@
 //! Declarations with types as nodes.
 
 ghost use Rattle.std.specs.Prelude.{◌≡◌, length, IfOk, IfErr, IsErrOf};
+ghost use Rattle.type_terms.specs.Additions.{AddsOnly, Outgrows};
 ghost use Rattle.type_terms.specs.Arenas.{AllBelow, Extends};
-ghost use Rattle.type_terms.specs.Declarations.{decl_nodes};
-ghost use Rattle.type_terms.specs.Declarations.{decl_of};
+ghost use Rattle.type_terms.specs.Declarations.{decl_nodes, decl_of, form_types};
 ghost use Rattle.decl_reader.specs.Faults.{IsNoFault};
 ghost use Rattle.decl_reader.specs.Blocks.{AllInside};
 ghost use Rattle.decl_reader.specs.Forms.{decl_form};
@@ -32,6 +32,10 @@ pub(crate) fn add_declaration(
     ensures within { IfOk result (λ node. AllBelow (length arena.new.nodes) (decl_nodes node)) }
     ensures extends { Extends arena.old arena.new }
     ensures only_memory { IfErr result IsNoFault }
+    ensures adds { AddsOnly (form_types (decl_meant (named_by version arena.old.nodes table.now) (decl_form parts)))
+        arena.old arena.new }
+    ensures outgrown { IsErrOf result DeclFault.Nodes → Outgrows arena.old
+        (form_types (decl_meant (named_by version arena.old.nodes table.now) (decl_form parts))) }
     ensures full { IsErrOf result DeclFault.Nodes → length arena.new.nodes ≡ arena.new.limit }
 {
     parts.with_nodes(alloc, version, table, arena)

@@ -1,6 +1,7 @@
 //! The node of a descriptor.
 
-ghost use Rattle.std.specs.Prelude.{◌≡◌, ◌<◌, length, IfOk, IfErr, IsErrOf};
+ghost use Rattle.std.specs.Prelude.{◌≡◌, ◌<◌, [], ◌∷◌, length, IfOk, IfErr, IsErrOf};
+ghost use Rattle.type_terms.specs.Additions.{AddsOnly, Outgrows};
 ghost use Rattle.type_terms.specs.Arenas.{Extends};
 ghost use Rattle.type_terms.specs.Denotation.{tree};
 ghost use Rattle.type_terms.specs.Shapes.{retype};
@@ -36,6 +37,11 @@ pub(crate) fn add_flat(
     ensures within { IfOk result (λ id. id < length arena.new.nodes) }
     ensures extends { Extends arena.old arena.new }
     ensures only_memory { IfErr result IsNoFault }
+    ensures adds { AddsOnly
+        (tree_of (retype (type_named version (table_of arena.old.nodes table.now)) (flat_shape flat)) ∷ [])
+        arena.old arena.new }
+    ensures outgrown { IsErrOf result DeclFault.Nodes → Outgrows arena.old
+        (tree_of (retype (type_named version (table_of arena.old.nodes table.now)) (flat_shape flat)) ∷ []) }
     ensures full { IsErrOf result DeclFault.Nodes → length arena.new.nodes ≡ arena.new.limit }
 {
     let node = flat.with_nodes(alloc, version, table, arena)?;

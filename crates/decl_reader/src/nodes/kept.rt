@@ -2,6 +2,7 @@
 
 ghost use Rattle.std.specs.Prelude.{◌≡◌, length, map, IfOk, IfErr, IsErrOf};
 ghost use Rattle.std.specs.List.{flat_map};
+ghost use Rattle.type_terms.specs.Additions.{AddsOnly, Outgrows};
 ghost use Rattle.type_terms.specs.Arenas.{AllBelow, Extends};
 ghost use Rattle.type_terms.specs.Denotation.{tree};
 ghost use Rattle.decl_reader.specs.Faults.{IsNoFault};
@@ -16,8 +17,9 @@ use type_terms::Arena;
 
 /// What stands in a block, with types as numbers. It is kept with types as nodes.
 pub(crate) trait Kept: Drop {
-    ghost use Rattle.std.specs.Prelude.{◌≡◌, ℕ, List, length, IfOk, IfErr, IsErrOf};
+    ghost use Rattle.std.specs.Prelude.{◌≡◌, ℕ, List, length, map, IfOk, IfErr, IsErrOf};
     ghost use Rattle.std.specs.List.{AllByRecursion};
+    ghost use Rattle.type_terms.specs.Additions.{AddsOnly, Outgrows};
     ghost use Rattle.type_terms.specs.Arenas.{AllBelow, Extends};
     ghost use Rattle.type_terms.specs.Denotation.{tree};
     ghost use Rattle.type_terms.specs.ShapeLaws.{Agree};
@@ -56,6 +58,10 @@ pub(crate) trait Kept: Drop {
         ensures within { IfOk result (λ item. AllBelow (length arena.new.nodes) (types (item_shape item))) }
         ensures extends { Extends arena.old arena.new }
         ensures only_memory { IfErr result IsNoFault }
+        ensures adds { AddsOnly (map (named_by version arena.old.nodes table.now) (types (shape self)))
+            arena.old arena.new }
+        ensures outgrown { IsErrOf result DeclFault.Nodes
+            → Outgrows arena.old (map (named_by version arena.old.nodes table.now) (types (shape self))) }
         ensures full { IsErrOf result DeclFault.Nodes → length arena.new.nodes ≡ arena.new.limit };
 
     /// The types decide what is meant.
@@ -78,6 +84,11 @@ pub(crate) fn all_with_nodes<T: Kept>(
         (λ kept. AllBelow (length arena.new.nodes) (flat_map T.types (map T.item_shape kept.items))) }
     ensures extends { Extends arena.old arena.new }
     ensures only_memory { IfErr result IsNoFault }
+    ensures adds { AddsOnly
+        (map (named_by version arena.old.nodes table.now) (flat_map T.types (map T.shape parts.items)))
+        arena.old arena.new }
+    ensures outgrown { IsErrOf result DeclFault.Nodes → Outgrows arena.old
+        (map (named_by version arena.old.nodes table.now) (flat_map T.types (map T.shape parts.items))) }
     ensures full { IsErrOf result DeclFault.Nodes → length arena.new.nodes ≡ arena.new.limit }
 {
     let mut kept = Vec::new(alloc);

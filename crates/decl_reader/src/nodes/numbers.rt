@@ -1,8 +1,10 @@
 //! The nodes of the types that numbers name.
 
-ghost use Rattle.std.specs.Prelude.{◌≡◌, ◌<◌, length, IfOk, IfErr, IsErrOf};
+ghost use Rattle.std.specs.Prelude.{◌≡◌, ◌<◌, [], ◌∷◌, length, IfOk, IfErr, IsErrOf};
+ghost use Rattle.type_terms.specs.Additions.{AddsOnly, Outgrows};
 ghost use Rattle.type_terms.specs.Arenas.{Extends};
 ghost use Rattle.type_terms.specs.Denotation.{tree};
+ghost use Rattle.type_terms.specs.Trees.{predeclared};
 ghost use Rattle.decl_reader.specs.Faults.{IsNoFault};
 ghost use Rattle.decl_reader.specs.Blocks.{AllInside};
 ghost use Rattle.decl_reader.specs.Meant.{named_by};
@@ -29,15 +31,31 @@ fn node_named(
     ensures within { IfOk result (λ id. id < length arena.new.nodes) }
     ensures extends { Extends arena.old arena.new }
     ensures only_memory { IfErr result IsNoFault }
+    ensures adds { AddsOnly (named_by version arena.old.nodes table.now number ∷ []) arena.old arena.new }
+    ensures outgrown { IsErrOf result DeclFault.Nodes
+        → Outgrows arena.old (named_by version arena.old.nodes table.now number ∷ []) }
     ensures full { IsErrOf result DeclFault.Nodes → length arena.new.nodes ≡ arena.new.limit }
 {
     match TypeOff::new(number) {
-        TypeOff::Basic(code) => Ok(arena.add(Node::Predeclared(basic_named(version, code)))?),
+        TypeOff::Basic(code) => predeclared_node(basic_named(version, code), arena),
         TypeOff::At(offset) => match table.at(offset) {
             Some(finished) => Ok(finished.node),
-            None => Ok(arena.add(Node::Predeclared(Basic::Bool))?),
+            None => predeclared_node(Basic::Bool, arena),
         },
     }
+}
+
+/// The node of a predeclared type.
+fn predeclared_node(basic: Basic, arena: &mut Arena) -> Result<NodeId, DeclFault>
+    ensures denotes { IfOk result (λ id. tree arena.new.nodes id ≡ predeclared basic) }
+    ensures within { IfOk result (λ id. id < length arena.new.nodes) }
+    ensures extends { Extends arena.old arena.new }
+    ensures only_memory { IfErr result IsNoFault }
+    ensures adds { AddsOnly (predeclared basic ∷ []) arena.old arena.new }
+    ensures outgrown { IsErrOf result DeclFault.Nodes → Outgrows arena.old (predeclared basic ∷ []) }
+    ensures full { IsErrOf result DeclFault.Nodes → length arena.new.nodes ≡ arena.new.limit }
+{
+    Ok(arena.add(Node::Predeclared(basic))?)
 }
 
 /// The number of a type.

@@ -1,3 +1,11 @@
+use Rattle.std.proofs.Common.{ℕ, Result, sym, subst}
+use Rattle.std.specs.Prelude.{IsErrOf}
+use Rattle.wire_bytes.specs.declared.fault.ByteFault.{ByteFault}
+use Rattle.type_terms.specs.Additions.{AddsOnly, Outgrows}
+use Rattle.decl_reader.specs.declared.flat.descriptors.Flat.{Flat}
+use Rattle.decl_reader.specs.declared.fault.DeclFault.TheVariants.{Nodes}
+use Rattle.decl_reader.specs.Left.{left_closed_by}
+use Rattle.decl_reader.specs.Opens.{own_shape}
 use Rattle.decl_reader.specs.Blocks.{table_of}
 use Rattle.decl_reader.specs.Calls.{sections_of}
 use Rattle.decl_reader.specs.Shapes.{flat_shape}
@@ -18,3 +26,13 @@ returns-in-Ok-clause-closed g c =
 pub finish-requires-clause-inside : goal.finish-requires-clause-inside
 finish-requires-clause-inside g c =
     own_ends (sections_of c.args.parts.now) (table_of c.args.self.now.arena.now.nodes c.args.self.now.table.now) c.args.self.now.table.now c.args.block c.in-Ok.flat c.in-Ok.end c.requires.is_open c.in-Ok.is
+
+pub returns-in-Ok-clause-adds : goal.returns-in-Ok-clause-adds
+returns-in-Ok-clause-adds g c =
+    let done = table_of c.args.self.now.arena.now.nodes c.args.self.now.table.now in
+    subst (λ (own : Result (Flat × ℕ) ByteFault). AddsOnly (left_closed_by c.args.parts.now.version (own_shape own) done) c.args.self.now.arena.now c.finish.new.self.arena.now) (sym c.in-Ok.is) c.finish.ensures.adds
+
+pub returns-in-Ok-clause-outgrown : goal.returns-in-Ok-clause-outgrown
+returns-in-Ok-clause-outgrown g c =
+    let done = table_of c.args.self.now.arena.now.nodes c.args.self.now.table.now in
+    subst (λ (own : Result (Flat × ℕ) ByteFault). IsErrOf c.finish.result Nodes → Outgrows c.args.self.now.arena.now (left_closed_by c.args.parts.now.version (own_shape own) done)) (sym c.in-Ok.is) c.finish.ensures.outgrown

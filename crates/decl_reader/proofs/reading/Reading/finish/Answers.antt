@@ -1,3 +1,4 @@
+use Rattle.decl_reader.proofs.WantLemmas.{passed}
 use Rattle.std.proofs.Common.{rules, sym, ap, ◌∙◌, length, refl, subst, arith}
 use Rattle.std.proofs.lemmas.Result.{err_from_is_err_and}
 use Rattle.decl_reader.specs.declared.table.Finished.{Finished}
@@ -86,3 +87,20 @@ returns-clause-goes_on g c =
       };
       counted = omega (arith, c.add.ensures, ap bytes_of added, added_bytes c.args.start finished c.requires.some es c.requires.ready.stacked c.requires.room);
     }
+
+pub returns-in_err-node-clause-adds : goal.returns-in_err-node-clause-adds
+returns-in_err-node-clause-adds g c = c.add_flat.ensures.adds
+
+pub returns-in_err-node-clause-outgrown : goal.returns-in_err-node-clause-outgrown
+returns-in_err-node-clause-outgrown g c wants =
+    let p = err_from_is_err_and c.from_residual.result c.from_residual.ensures.1 in
+    c.add_flat.ensures.outgrown (passed c.from_residual.result c.add_flat.result p.0 c.in_err-node.field-0.0 p.1 p.2 c.in_err-node.was wants)
+
+pub returns-in_err-insert-clause-adds : goal.returns-in_err-insert-clause-adds
+returns-in_err-insert-clause-adds g c = c.add_flat.ensures.adds
+
+pub returns-in_err-check_node-clause-adds : goal.returns-in_err-check_node-clause-adds
+returns-in_err-check_node-clause-adds g c = c.add_flat.ensures.adds
+
+pub returns-clause-adds : goal.returns-clause-adds
+returns-clause-adds g c = c.add_flat.ensures.adds

@@ -1,3 +1,9 @@
+use Rattle.std.proofs.Common.{sym, subst}
+use Rattle.type_terms.specs.Additions.{AddsOnly}
+use Rattle.decl_spelling.specs.Leaving.{left_after_head}
+use Rattle.decl_reader.specs.declared.flat.declarations.DeclHead.{DeclHead}
+use Rattle.decl_reader.specs.Forms.{head_shape}
+use Rattle.decl_reader.specs.Progress.{known}
 use Rattle.std.proofs.Common.{rules, Err, ap, refl, ◌∙◌}
 use Rattle.std.proofs.lemmas.Result.{err_from_is_err_and}
 use Rattle.type_terms.specs.Declarations.{constant_of}
@@ -38,3 +44,13 @@ returns-in_err-value-in-Constant-clause-goes_on g c =
       ready = c.requires.ready;
       counted = refl;
     }
+
+pub returns-in_err-methods-in-Defined-clause-adds : goal.returns-in_err-methods-in-Defined-clause-adds
+returns-in_err-methods-in-Defined-clause-adds g c =
+    subst (λ (head : DeclHead). AddsOnly (left_after_head (sections_of c.args.parts.now) c.args.offset (head_shape head) (ahead_of c.args.block.now) (known c.args.self.now)) c.args.self.now.arena.now c.read_methods.new.self.arena.now)
+    (sym c.in-Defined.is) c.read_methods.ensures.adds
+
+pub returns-in_ok-methods-in-Defined-clause-adds : goal.returns-in_ok-methods-in-Defined-clause-adds
+returns-in_ok-methods-in-Defined-clause-adds g c =
+    subst (λ (head : DeclHead). AddsOnly (left_after_head (sections_of c.args.parts.now) c.args.offset (head_shape head) (ahead_of c.args.block.now) (known c.args.self.now)) c.args.self.now.arena.now c.read_methods.new.self.arena.now)
+    (sym c.in-Defined.is) c.read_methods.ensures.adds
