@@ -4,3 +4,4 @@ mod SubstitutionLemmas
 mod SearchLemmas
 mod MoveLemmas
 mod MovingLemmas
+mod ExpansionLemmas
