@@ -11,7 +11,7 @@ use Rattle.cycle_rules.specs.declared.shapes.DeclShape.{DeclShape}
 use Rattle.cycle_rules.specs.declared.containment.Place.{Place}
 use Rattle.cycle_rules.specs.Paths.{Arrow}
 use Rattle.cycle_rules.specs.Forms.{Content, parameter, shape, Holds, held, applied, part, argument, Fits, Owns}
-use Rattle.cycle_rules.specs.Containment.{Findings, StandsAt, HasEntry, IsSound, IsFound, IsMarked, IsListed, IsPlaced, Counts, IsHandled, IsContainment, OnlyPlaces, size_left, count_unmarked, GainsEntry, IsUnmarked, AreWhole}
+use Rattle.cycle_rules.specs.Containment.{Findings, StandsAt, IsArgument, HasEntry, IsSound, IsFound, IsMarked, IsListed, IsPlaced, Counts, IsHandled, IsContainment, OnlyPlaces, size_left, count_unmarked, GainsEntry, IsUnmarked, AreWhole}
 use Rattle.cycle_rules.proofs.FitsLemmas.{fits-Apply, fits-Parts, fits-Held, same_Apply, not_Held_Apply, not_Parts_Apply}
 use Rattle.cycle_rules.proofs.PlaceLemmas.{at_within, at_some, at-replicate, at-left, at-last, at-push_cases, at-take, at-taken, at-set_same, at-set_other, at-pushed_old, at-pushed_new, at-pushed_cases, at-written_old, at-written_cases}
 
@@ -378,34 +378,21 @@ count_marked marks t j row from to =
     let entry_is = ap {B = ℕ} (λ (b : Bool). cond (not b) 1 0) (get_or_from_slice_get row j false false to) in
     omega (arith, outer, inner, row_is, entry_is)
 
--- a listed application of a declaration that contains its parameter j
-module _ (shapes : List DeclShape) (marks : List (List Bool)) (places : List Place) (at : ℕ) (applications : List (List Place)) (edges : List (List ℕ))
-    (search : IsContainment shapes marks places at applications edges) (t j : ℕ) (owned : Owns shapes t (parameter j)) (entries : List Bool) (from : slice_get marks t ≡ Some entries) (fits : j < length entries)
-    (place : Place) (listed : IsListed applications t place) (x : ℕ) (arguments : List Form) (formed : place.form.now ≡ Apply x arguments) where
-  place_counts : Counts shapes place.owner place.form.now
-  place_counts = let q = search.listed t place listed in search.sound q.0 place q.1
+-- one argument stands in a place
+pub same_argument : {form : Form} {j : ℕ} {one two : Form} → IsArgument form j one → IsArgument form j two → one ≡ two
+same_argument {form} {j} {one} {two} a b =
+    let same = (same_Apply form a.applied b.applied a.arguments b.arguments a.formed b.formed).1 in
+    let there : slice_get b.arguments j ≡ Some one = subst (λ (l : List Form). slice_get l j ≡ Some one) same a.there in
+    let other = b.there in
+    cc
 
-  own_arguments : (others : List Form) × (place.form.now ≡ Apply t others)
-  own_arguments = search.applied t place listed
-
-  same_arguments : (x ≡ t) × (arguments ≡ own_arguments.0)
-  same_arguments = same_Apply place.form.now x t arguments own_arguments.0 formed own_arguments.1
-
-  applies_t : place.form.now ≡ Apply t arguments
-  applies_t = own_arguments.1 ∙ ap (Apply t) (sym same_arguments.1)
-
-  pub argument_within : j < length arguments
-  argument_within =
-      let enough = fits-Apply place.form.now t arguments applies_t place_counts.fits in
-      let long = search.rows_sized t entries enough.of from enough.at in
-      let count = enough.count in
-      omega arith
-
-  pub argument_counts : (form : Form) → slice_get arguments j ≡ Some form → Counts shapes place.owner form
-  argument_counts form there = counts_argument shapes place.owner t j place.form.now form arguments place_counts applies_t owned there
-
-  pub argument_same : (others : List Form) → place.form.now ≡ Apply t others → others ≡ arguments
-  argument_same others e = (same_Apply place.form.now t t others arguments e applies_t).1
+-- what counts in a listed application of a declaration that contains its parameter j
+pub argument_counts : (s : Findings) → IsSound s → (t j : ℕ) → Owns s.shapes t (parameter j) → (place : Place) → IsListed s.applications t place → (form : Form) → IsArgument place.form.now j form → Counts s.shapes place.owner form
+argument_counts s sound t j owned place listed form is =
+    let q = sound.listed t place listed in
+    let own = sound.applied t place listed in
+    let same = (same_Apply place.form.now is.applied t is.arguments own.0 is.formed own.1).0 in
+    counts_argument s.shapes place.owner is.applied j place.form.now form is.arguments (sound.sound q.0 place q.1) is.formed (subst (λ (n : ℕ). Owns s.shapes n (parameter j)) (sym same) owned) is.there
 
 -- before anything was handled
 pub begins : (shapes : List DeclShape) (marks : List (List Bool)) (places : List Place) (applications : List (List Place)) (edges : List (List ℕ)) →

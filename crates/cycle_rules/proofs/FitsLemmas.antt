@@ -1,5 +1,5 @@
 -- What it takes that a form fits, by its variant.
-use Rattle.std.proofs.Common.{◌≡◌, ℕ, ◌<◌, List, length, slice_get, Some, ap, ◌∙◌, sym, subst}
+use Rattle.std.proofs.Common.{◌≡◌, ℕ, ◌<◌, List, slice_get, Some, ap, ◌∙◌, sym, subst}
 use Rattle.cycle_rules.specs.declared.shapes.Form.{Form}
 use Rattle.cycle_rules.specs.declared.shapes.DeclShape.{DeclShape}
 use Rattle.cycle_rules.specs.declared.shapes.Form.TheVariants.{Stop, Held, Apply, Parts, rolls-Apply, rolls-Parts, rolls-Stop, rolls-Held}
@@ -26,20 +26,18 @@ out-Parts all = layer_is (Parts all) (layer.Parts all) (rolls-Parts all)
 pub record FitsApplied (shapes : List DeclShape) (params t : ℕ) (arguments : List Form) : Type 0 where
   pub of : DeclShape
   pub at : slice_get shapes t ≡ Some of
-  pub count : length arguments ≡ of.params
   pub each : (k : ℕ) (form : Form) → slice_get arguments k ≡ Some form → Fits shapes params form
 
 fits-applied : {shapes : List DeclShape} {params : ℕ} {form : Form} (t : ℕ) (arguments : List Form) → Fits shapes params form → out-Form form ≡ layer.Apply t arguments → FitsApplied shapes params t arguments
 fits-applied t arguments stop e = let own = out-Stop in absurd cc
 fits-applied t arguments (held i h) e = let own = out-Held i in absurd cc
-fits-applied {shapes} {params} t arguments (applied u others of at count each) e =
+fits-applied {shapes} {params} t arguments (applied u others of at each) e =
     let own : layer.Apply u others ≡ layer.Apply t arguments = sym (out-Apply u others) ∙ e in
     let same : u ≡ t = cc in
     let alike : others ≡ arguments = cc in
     record {
       of = of;
       at = subst (λ (n : ℕ). slice_get shapes n ≡ Some of) same at;
-      count = subst (λ (l : List Form). length l ≡ of.params) alike count;
       each = subst (λ (l : List Form). (k : ℕ) (form : Form) → slice_get l k ≡ Some form → Fits shapes params form) alike each;
     }
 fits-applied t arguments (parts all each) e = let own = out-Parts all in absurd cc
@@ -50,7 +48,7 @@ fits-Apply form t arguments e fits = fits-applied t arguments fits (ap out-Form 
 fits-parts : {shapes : List DeclShape} {params : ℕ} {form : Form} (all : List Form) → Fits shapes params form → out-Form form ≡ layer.Parts all → (k : ℕ) (part : Form) → slice_get all k ≡ Some part → Fits shapes params part
 fits-parts all stop e = let own = out-Stop in absurd cc
 fits-parts all (held i h) e = let own = out-Held i in absurd cc
-fits-parts all (applied u others of at count each) e = let own = out-Apply u others in absurd cc
+fits-parts all (applied u others of at each) e = let own = out-Apply u others in absurd cc
 fits-parts {shapes} {params} all (parts some each) e =
     let own : layer.Parts some ≡ layer.Parts all = sym (out-Parts some) ∙ e in
     let alike : some ≡ all = cc in
@@ -65,7 +63,7 @@ fits-held {shapes} {params} i (held j h) e =
     let own : layer.Held j ≡ layer.Held i = sym (out-Held j) ∙ e in
     let same : j ≡ i = cc in
     subst (λ (n : ℕ). n < params) same h
-fits-held i (applied u others of at count each) e = let own = out-Apply u others in absurd cc
+fits-held i (applied u others of at each) e = let own = out-Apply u others in absurd cc
 fits-held i (parts all each) e = let own = out-Parts all in absurd cc
 
 pub fits-Held : {shapes : List DeclShape} {params : ℕ} (form : Form) (i : ℕ) → form ≡ Held i → Fits shapes params form → i < params

@@ -1,5 +1,5 @@
 -- A search before its first step and after its last.
-use Rattle.std.proofs.Common.{◌≡◌, ℕ, ◌<◌, ◌≤◌, List, [], length, map, replicate, slice_get, slice_index, Some, refl, ap, ◌∙◌, subst, inl, inr, arith}
+use Rattle.std.proofs.Common.{◌≡◌, ℕ, ◌+◌, ◌<◌, ◌≤◌, List, [], ◌∷◌, ◌++◌, Bool, true, false, length, length-append, map, replicate, slice_get, slice_index, Some, refl, ap, ◌∙◌, subst, inl, inr, arith}
 use Rattle.std.proofs.lemmas.List.{length-map}
 use Rattle.std.proofs.lemmas.List.Sums.{count_by-le-length}
 use Rattle.std.proofs.lemmas.Bool.{cases_lt}
@@ -7,9 +7,9 @@ use Rattle.std.proofs.lemmas.Option.{get_or_from_slice_get}
 use Rattle.cycle_rules.specs.declared.components.Mark.{Mark}
 use Rattle.cycle_rules.specs.declared.components.Mark.TheVariants.{New, Open, Done}
 use Rattle.cycle_rules.specs.declared.components.Bound.{Bound}
-use Rattle.cycle_rules.specs.Paths.{Path, edge, onward as longer, Arrow, LiesOnCycle}
+use Rattle.cycle_rules.specs.Paths.{Path, edge, onward as longer, Arrow, LiesOnCycle, TellsCycles}
 use Rattle.cycle_rules.specs.Search.{is_new, rank_in, IsSearch, RanksComponents}
-use Rattle.cycle_rules.proofs.PlaceLemmas.{at_within, at_some, at-mapped, at-map_of, at-replicate}
+use Rattle.cycle_rules.proofs.PlaceLemmas.{at_within, at_some, at-push_cases, at-mapped, at-map_of, at-replicate}
 use Rattle.cycle_rules.proofs.ReachesLemmas.{path_from}
 
 no_place : {X : Type 0} (i : ℕ) (x : X) → slice_get {X = X} [] i ≡ Some x → ⊥
@@ -103,3 +103,36 @@ module _ (graph : List (List ℕ)) (ranks : List ℕ) (ranked : RanksComponents 
   -- and on one if an edge does
   pub on_cycle : (a b r : ℕ) → Arrow graph a b → slice_get ranks a ≡ Some r → slice_get ranks b ≡ Some r → LiesOnCycle (Arrow graph) a
   on_cycle a b r arrow at_a at_b = path_from arrow (ranked.alike b a r at_b at_a)
+
+  -- an edge falls where it leads from a node that lies on no cycle
+  pub falls_off : (a b : ℕ) → Arrow graph a b → (LiesOnCycle (Arrow graph) a → ⊥) → slice_index ranks b < slice_index ranks a
+  falls_off a b arrow none = strict_at a b (λ r at_a at_b. none (on_cycle a b r arrow at_a at_b)) arrow
+
+  -- one more node, by the ranks of the nodes that its edges lead to
+  pub told_more : (node rank : ℕ) (targets : List ℕ) → slice_get graph node ≡ Some targets → slice_get ranks node ≡ Some rank → (cyclic : Bool)
+      → (cyclic ≡ true → (k : ℕ) × (v : ℕ) × (slice_get targets k ≡ Some v) × (slice_get ranks v ≡ Some rank))
+      → (cyclic ≡ false → (k v : ℕ) → slice_get targets k ≡ Some v → slice_get ranks v ≡ Some rank → ⊥)
+      → (told : List Bool) → TellsCycles (Arrow graph) node told → TellsCycles (Arrow graph) (node + 1) (told ++ cyclic ∷ [])
+  told_more node rank targets row own cyclic some none told was = record {
+    sized = length-append told (cyclic ∷ []) ∙ omega (arith, was.sized);
+    yes = λ v at. elim (at-push_cases told cyclic v true at) [
+      | inl old ↦ was.yes v old
+      | inr new ↦
+          let found = some new.1 in
+          let same : node ≡ v = omega (arith, was.sized, new.0) in
+          subst (LiesOnCycle (Arrow graph)) same (on_cycle node found.1 rank (record { targets = targets; place = found.0; from = row; to = found.2 }) own found.3)
+    ];
+    no = λ v at. elim (at-push_cases told cyclic v false at) [
+      | inl old ↦ was.no v old
+      | inr new ↦
+          let same : node ≡ v = omega (arith, was.sized, new.0) in
+          subst (λ (n : ℕ). LiesOnCycle (Arrow graph) n → ⊥) same (off_cycle node (λ b r arrow at_node at_b. only_rank arrow at_node at_b (none new.1)))
+    ];
+  }
+    where
+      only_rank : {b r : ℕ} → Arrow graph node b → slice_get ranks node ≡ Some r → slice_get ranks b ≡ Some r → ((k v : ℕ) → slice_get targets k ≡ Some v → slice_get ranks v ≡ Some rank → ⊥) → ⊥
+      only_rank {b} {r} arrow at_node at_b never =
+          let from = arrow.from in
+          let equal : arrow.targets ≡ targets = cc in
+          let alike : r ≡ rank = cc in
+          never arrow.place b (subst (λ (l : List ℕ). slice_get l arrow.place ≡ Some b) equal arrow.to) (subst (λ (n : ℕ). slice_get ranks b ≡ Some n) alike at_b)

@@ -27,6 +27,13 @@ pub record IsListed (rows : List (List Place)) (row : ℕ) (place : Place) : Typ
   pub from : slice_get rows row ≡ Some places
   pub to : slice_get places index ≡ Some place
 
+-- the form applies a declaration, and this is the argument in this place
+pub record IsArgument (form : Form) (place : ℕ) (argument : Form) : Type 0 where
+  pub applied : ℕ
+  pub arguments : List Form
+  pub formed : form ≡ Apply applied arguments
+  pub there : slice_get arguments place ≡ Some argument
+
 -- among the places is one of this owner with this form
 pub record IsPlaced (places : List Place) (owner : ℕ) (form : Form) : Type 0 where
   pub index : ℕ

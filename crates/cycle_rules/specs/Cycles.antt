@@ -1,13 +1,12 @@
-use Rattle.std.specs.Prelude.{◌≡◌, ℕ, ◌<◌, List, [], length, map, slice_get, slice_index, Option, Some, IfSome, IfNone}
-use Rattle.std.specs.Prelude.{MatchOption}
+use Rattle.std.specs.Prelude.{◌≡◌, ℕ, ◌<◌, List, [], length, map, slice_get, slice_index, Option, Some, MatchOption}
 use Rattle.cycle_rules.specs.declared.cycles.CycleKind.{CycleKind}
 use Rattle.cycle_rules.specs.declared.cycles.CycleKind.TheVariants.{Contains, Embeds, OfAlias, Constraint, Value}
 use Rattle.cycle_rules.specs.declared.cycles.Ranks.{Ranks}
 use Rattle.cycle_rules.specs.declared.cycles.Ranked.{Ranked}
-use Rattle.cycle_rules.specs.declared.cycles.Cycle.{Cycle}
+use Rattle.cycle_rules.specs.declared.cycles.Graphs.{Graphs}
 use Rattle.cycle_rules.specs.declared.shapes.DeclShape.{DeclShape}
 use Rattle.cycle_rules.specs.Forms.{Fits, Owns, shape}
-use Rattle.cycle_rules.specs.Paths.{Arrow, IsGraph, LiesOnCycle}
+use Rattle.cycle_rules.specs.Paths.{Arrow, IsGraph, LiesOnCycle, TellsCycles}
 
 -- the declarations that a declaration lists for this kind; what it contains is no list
 abbrev pub targets_of : CycleKind → DeclShape → List ℕ
@@ -37,14 +36,23 @@ place_of OfAlias = 2
 place_of Constraint = 3
 place_of Value = 4
 
+-- the first kind of which the declaration lies on a cycle, if it lies on one
+abbrev pub IsFirstKind : List DeclShape → ℕ → Option CycleKind → Type 0
+IsFirstKind shapes s first = MatchOption first ((k : CycleKind) → IsCyclic shapes k s → ⊥) (λ kind.
+    IsCyclic shapes kind s × ((k : CycleKind) → place_of k < place_of kind → IsCyclic shapes k s → ⊥))
+
+-- for each of so many declarations the first kind of which it lies on a cycle, if it lies on one
+pub record AreFirstKinds (shapes : List DeclShape) (count : ℕ) (kinds : List (Option CycleKind)) : Type 0 where
+  pub sized : length kinds ≡ count
+  pub each : (s : ℕ) (first : Option CycleKind) → slice_get kinds s ≡ Some first → IsFirstKind shapes s first
+
 -- the first declaration that lies on a cycle, and the first kind of which it lies on one
 pub record IsFirstCycle (shapes : List DeclShape) (kind : CycleKind) (item : ℕ) : Type 0 where
   pub cyclic : IsCyclic shapes kind item
   pub least : (k : CycleKind) (s : ℕ) → s < item → IsCyclic shapes k s → ⊥
   pub earliest : (k : CycleKind) → place_of k < place_of kind → IsCyclic shapes k item → ⊥
 
--- The numbers in these declarations are places of the list and numbers of parameters, and each application has as many
--- arguments as there are parameters.
+-- the numbers in these declarations are places of the list and numbers of parameters
 pub record AreShapes (shapes : List DeclShape) : Type 0 where
   pub forms : (s : ℕ) (of : DeclShape) → slice_get shapes s ≡ Some of → Fits shapes of.params of.holds
   pub lists : (kind : CycleKind) → IsGraph (map (targets_of kind) shapes)
@@ -68,23 +76,14 @@ pub record HasRanks (r : Ranks) (count : ℕ) : Type 0 where
 -- what was found of one relation
 pub record IsRanked (Edge : ℕ → ℕ → Type 0) (count : ℕ) (ranked : Ranked) : Type 0 where
   pub sized : length ranked.ranks.items ≡ count
-  pub found : IfSome ranked.first (λ v. LiesOnCycle Edge v)
-  pub least : IfSome ranked.first (λ v. (u : ℕ) → u < v → LiesOnCycle Edge u → ⊥)
-  pub falls : IfNone ranked.first ((s t : ℕ) → Edge s t
-      → slice_index ranked.ranks.items t < slice_index ranked.ranks.items s)
+  pub cyclic : TellsCycles Edge count ranked.cyclic.items
+  pub falls : (s t : ℕ) → Edge s t → (LiesOnCycle Edge s → ⊥)
+      → slice_index ranked.ranks.items t < slice_index ranked.ranks.items s
 
--- this is the first that lies on a cycle of this kind, if one does
-abbrev pub IsFirstOf : List DeclShape → CycleKind → Option ℕ → Type 0
-IsFirstOf shapes kind item = MatchOption item ((s : ℕ) → IsCyclic shapes kind s → ⊥) (λ v. IsCyclic shapes kind v
-    × ((u : ℕ) → u < v → IsCyclic shapes kind u → ⊥))
-
--- the first that lies on a cycle of one of the first so many kinds, if one does
-pub record IsFirstAmong (shapes : List DeclShape) (count : ℕ) (kind : CycleKind) (item : ℕ) : Type 0 where
-  pub cyclic : IsCyclic shapes kind item
-  pub among : place_of kind < count
-  pub least : (k : CycleKind) (s : ℕ) → place_of k < count → s < item → IsCyclic shapes k s → ⊥
-  pub earliest : (k : CycleKind) → place_of k < place_of kind → IsCyclic shapes k item → ⊥
-
-abbrev pub IsFound : List DeclShape → ℕ → Option Cycle → Type 0
-IsFound shapes count found = MatchOption found ((k : CycleKind) (s : ℕ) → place_of k < count → IsCyclic shapes k s
-    → ⊥) (λ c. IsFirstAmong shapes count c.kind c.item)
+-- what was found of each kind
+pub record AreRanked (g : Graphs) : Type 0 where
+  pub contains : IsRanked (IsEdge g.shapes.now Contains) (length g.shapes.now) g.contains
+  pub embeds : IsRanked (IsEdge g.shapes.now Embeds) (length g.shapes.now) g.embeds
+  pub aliases : IsRanked (IsEdge g.shapes.now OfAlias) (length g.shapes.now) g.aliases
+  pub constraints : IsRanked (IsEdge g.shapes.now Constraint) (length g.shapes.now) g.constraints
+  pub values : IsRanked (IsEdge g.shapes.now Value) (length g.shapes.now) g.values

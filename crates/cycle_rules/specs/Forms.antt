@@ -1,4 +1,4 @@
-use Rattle.std.specs.Prelude.{◌≡◌, ℕ, ◌<◌, List, length, slice_get, Some}
+use Rattle.std.specs.Prelude.{◌≡◌, ℕ, ◌<◌, List, slice_get, Some}
 use Rattle.cycle_rules.specs.declared.shapes.Form.{Form}
 use Rattle.cycle_rules.specs.declared.shapes.Form.TheVariants.{Stop, Held, Apply, Parts}
 use Rattle.cycle_rules.specs.declared.shapes.DeclShape.{DeclShape}
@@ -8,7 +8,8 @@ pub data Content : Type 0 where
   parameter : ℕ → Content
   shape : ℕ → Content
 
--- A form contains what stands in it, and in an argument only where the applied declaration contains that parameter.
+-- A form contains what stands in it, and in an argument only where the applied declaration contains that parameter. So
+-- a missing argument contains nothing, and neither does one too many, for which there is no parameter.
 pub data Holds (shapes : List DeclShape) : Form → Content → Type 0 where
   held : (i : ℕ) → Holds shapes (Held i) (parameter i)
   applied : (t : ℕ) (arguments : List Form) → Holds shapes (Apply t arguments) (shape t)
@@ -18,13 +19,11 @@ pub data Holds (shapes : List DeclShape) : Form → Content → Type 0 where
       → slice_get shapes t ≡ Some of → Holds shapes of.holds (parameter k) → slice_get arguments k ≡ Some form
       → Holds shapes form content → Holds shapes (Apply t arguments) content
 
--- The form names parameters that there are, and declarations of the list with as many arguments as they have
--- parameters.
+-- The form names parameters that there are and declarations of the list, applied to any number of arguments.
 pub data Fits (shapes : List DeclShape) (params : ℕ) : Form → Type 0 where
   stop : Fits shapes params Stop
   held : (i : ℕ) → i < params → Fits shapes params (Held i)
   applied : (t : ℕ) (arguments : List Form) (of : DeclShape) → slice_get shapes t ≡ Some of
-      → length arguments ≡ of.params
       → ((k : ℕ) (form : Form) → slice_get arguments k ≡ Some form → Fits shapes params form)
       → Fits shapes params (Apply t arguments)
   parts : (all : List Form) → ((k : ℕ) (form : Form) → slice_get all k ≡ Some form → Fits shapes params form)

@@ -1,4 +1,4 @@
-use Rattle.std.specs.Prelude.{◌≡◌, ℕ, ◌<◌, List, length, slice_get, Some}
+use Rattle.std.specs.Prelude.{◌≡◌, ℕ, ◌<◌, List, Bool, true, false, length, slice_get, Some}
 
 -- edges lead from a to b, one or more
 pub data Path (Edge : ℕ → ℕ → Type 0) : ℕ → ℕ → Type 0 where
@@ -19,3 +19,9 @@ pub record Arrow (graph : List (List ℕ)) (a b : ℕ) : Type 0 where
 -- each edge leads to a node of the graph
 abbrev pub IsGraph : List (List ℕ) → Type 0
 IsGraph graph = (a b : ℕ) → Arrow graph a b → b < length graph
+
+-- for each of so many nodes whether it lies on a cycle
+pub record TellsCycles (Edge : ℕ → ℕ → Type 0) (count : ℕ) (told : List Bool) : Type 0 where
+  pub sized : length told ≡ count
+  pub yes : (v : ℕ) → slice_get told v ≡ Some true → LiesOnCycle Edge v
+  pub no : (v : ℕ) → slice_get told v ≡ Some false → LiesOnCycle Edge v → ⊥

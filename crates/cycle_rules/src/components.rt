@@ -2,8 +2,8 @@
 
 ghost use Rattle.std.specs.Prelude.{◌≡◌, ℕ, ◌+◌, ◌-◌, ◌*◌, ◌<◌, ◌≤◌, ◌^◌, ◌↔◌, ◌⊎◌, List, [], ◌∷◌, ◌++◌, length, take};
 ghost use Rattle.std.specs.Prelude.{map, IsTrue, IfOk, IfSome, IfNone, OnOk, OnSome, IsFalse, slice_get, slice_set};
-ghost use Rattle.std.specs.Prelude.{slice_index, MatchOption, count_by};
-ghost use Rattle.cycle_rules.specs.Paths.{LiesOnCycle, Arrow, IsGraph};
+ghost use Rattle.std.specs.Prelude.{count_by};
+ghost use Rattle.cycle_rules.specs.Paths.{Arrow, IsGraph, TellsCycles};
 ghost use Rattle.cycle_rules.specs.Search.{rank_in, Searches, edges_of, Reaches, IsSearch, HasRoom, RanksComponents};
 ghost use Rattle.cycle_rules.specs.Search.{is_new};
 
@@ -264,20 +264,15 @@ fn has_rank(ranks: &[u64], nodes: &[u32], rank: u64) -> bool
     false
 }
 
-/// The first node that lies on a cycle, by the ranks of the components.
-pub fn first_on_cycle(graph: &[&[u32]], ranks: &[u64]) -> Option<u32>
-    requires size { length graph.now < 2 ^ 32 }
+/// For each node whether it lies on a cycle, by the ranks of the components.
+pub fn on_cycles(alloc: Global, graph: &[&[u32]], ranks: &[u64]) -> Result<Vec<bool>, AllocError>
     requires graph { IsGraph (map (λ t. t.now) graph.now) }
     requires ranks { RanksComponents (map (λ t. t.now) graph.now) ranks.now }
-    ensures found { IfSome result (λ v. LiesOnCycle (Arrow (map (λ t. t.now) graph.now)) v) }
-    ensures first { IfSome result (λ v. (u : ℕ) → u < v → LiesOnCycle (Arrow (map (λ t. t.now) graph.now)) u → ⊥) }
-    ensures none { IfNone result ((u v : ℕ) → Arrow (map (λ t. t.now) graph.now) u v
-        → slice_index ranks.now v < slice_index ranks.now u) }
+    ensures { IfOk result (λ told. TellsCycles (Arrow (map (λ t. t.now) graph.now)) (length graph.now) told.items) }
 {
+    let mut told = Vec::with_capacity(alloc, graph.len())?;
     for (node, targets) in graph.iter().enumerate() {
-        if has_rank(ranks, targets, ranks[node]) {
-            return Some(node as u32);
-        }
+        told.push(has_rank(ranks, targets, ranks[node]))?;
     }
-    None
+    Ok(told)
 }

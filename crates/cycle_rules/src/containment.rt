@@ -7,7 +7,7 @@ ghost use Rattle.cycle_rules.specs.Forms.{Fits, Content, parameter, shape, Owns}
 ghost use Rattle.cycle_rules.specs.Counting.{form_count};
 ghost use Rattle.cycle_rules.specs.Containment.{IsUnmarked, AreWhole, GainsEntry, IsMarked, IsPlaced, Counts, HasEntry};
 ghost use Rattle.cycle_rules.specs.Containment.{StandsAt, IsFound, IsNext, Applies, ArePlaced, IsSound, OnlyPlaces};
-ghost use Rattle.cycle_rules.specs.Containment.{size_left, count_unmarked, rows_of};
+ghost use Rattle.cycle_rules.specs.Containment.{IsArgument, size_left, count_unmarked, rows_of};
 
 use crate::shapes::{DeclShape, Form};
 use std::alloc::{AllocError, Global};
@@ -292,10 +292,10 @@ impl<'a> Containment<'a> {
             let Some(place) = self.application(owner, at) else {
                 continue;
             };
-            let Form::Apply(_, arguments) = place.form else {
+            let Some(form) = argument_at(place.form, index as usize) else {
                 continue;
             };
-            self.add(place.owner, &arguments.as_slice()[index as usize])?;
+            self.add(place.owner, form)?;
         }
         self.set_contained(owner, index);
         Ok(())
@@ -320,6 +320,17 @@ impl<'a> Containment<'a> {
     {
         self.edges
     }
+}
+
+/// The argument in this place of an application, if it has so many.
+fn argument_at(form: &Form, place: usize) -> Option<&Form>
+    ensures found { IfSome result (λ argument. IsArgument form.now place argument.now) }
+    ensures none { IfNone result ((argument : Form) → IsArgument form.now place argument → ⊥) }
+{
+    let Form::Apply(_, arguments) = form else {
+        return None;
+    };
+    arguments.as_slice().get(place)
 }
 
 /// The entry of a table.

@@ -1,11 +1,13 @@
 //! Whether declarations lie on a forbidden cycle.
 
-ghost use Rattle.std.specs.Prelude.{◌≡◌, ◌≢◌, ℕ, ◌+◌, ◌<◌, ◌≤◌, ◌^◌, List, length, IfOk, OnOk, Err, slice_get, map};
+ghost use Rattle.std.specs.Prelude.{◌≡◌, ◌≢◌, ℕ, ◌<◌, ◌≤◌, ◌^◌, List, length, IfOk, OnOk, Err, IfSome, IfNone, Some};
+ghost use Rattle.std.specs.Prelude.{IsTrue, IsFalse, slice_get, map};
 ghost use Rattle.cycle_rules.specs.Paths.{Arrow, IsGraph};
-ghost use Rattle.cycle_rules.specs.Cycles.{targets_of, IsEdge, IsCyclic, IsFirstCycle, AreShapes, rank_in, HasRanks};
-ghost use Rattle.cycle_rules.specs.Cycles.{IsRanked, IsFirstOf, IsFound, place_of};
+ghost use Rattle.cycle_rules.specs.Forms.{Owns, parameter};
+ghost use Rattle.cycle_rules.specs.Cycles.{targets_of, IsEdge, IsCyclic, IsFirstKind, AreFirstKinds, IsFirstCycle};
+ghost use Rattle.cycle_rules.specs.Cycles.{AreShapes, rank_in, HasRanks, IsRanked, AreRanked};
 
-use crate::components::{component_ranks, first_on_cycle};
+use crate::components::{component_ranks, on_cycles};
 use crate::containment::contained_in;
 use crate::shapes::DeclShape;
 use std::alloc::{AllocError, Global};
@@ -69,22 +71,22 @@ impl Ranks {
     }
 }
 
-/// What was found of the edges of one kind: the ranks, and the first declaration that lies on a cycle.
+/// What was found of the edges of one kind: the ranks of the declarations, and which of them lie on a cycle.
 #[derive(Drop)]
 struct Ranked {
     ranks: Vec<u64>,
-    first: Option<u32>,
+    cyclic: Vec<bool>,
 }
 
-/// Ranks the nodes of a graph, and finds the first that lies on a cycle.
+/// Ranks the nodes of a graph, and finds those that lie on a cycle.
 fn rank_graph(alloc: Global, graph: &[&[u32]]) -> Result<Ranked, AllocError>
     requires size { length graph.now < 2 ^ 32 }
     requires graph { IsGraph (map (λ t. t.now) graph.now) }
     ensures { IfOk result (IsRanked (Arrow (map (λ t. t.now) graph.now)) (length graph.now)) }
 {
     let ranks = component_ranks(alloc, graph)?;
-    let first = first_on_cycle(graph, &ranks);
-    Ok(Ranked { ranks, first })
+    let cyclic = on_cycles(alloc, graph, &ranks)?;
+    Ok(Ranked { ranks, cyclic })
 }
 
 /// The declarations that a declaration lists for this kind.
@@ -144,28 +146,146 @@ fn rank_contained(alloc: Global, shapes: &[DeclShape]) -> Result<Ranked, AllocEr
     rank_graph(alloc, &graph)
 }
 
-/// The first declaration that lies on a cycle, and the first kind of which it lies on one.
-#[derive(Clone, Copy)]
-struct Cycle {
-    kind: CycleKind,
-    item: u32,
+/// What was found of each kind.
+#[derive(Drop)]
+struct Graphs<'a> {
+    shapes: &'a [DeclShape],
+    contains: Ranked,
+    embeds: Ranked,
+    aliases: Ranked,
+    constraints: Ranked,
+    values: Ranked,
 }
 
-/// The first of what was found of the kinds before this one, and of this one.
-fn earlier(found: Option<Cycle>, kind: CycleKind, item: Option<u32>) -> Option<Cycle>
-    ensures { (shapes : List DeclShape) → IsFound shapes (place_of kind) found → IsFirstOf shapes kind item
-        → IsFound shapes (place_of kind + 1) result }
+/// Ranks the declarations by each kind.
+fn rank_all<'a>(alloc: Global, shapes: &'a [DeclShape]) -> Result<Graphs<'a>, AllocError>
+    requires size { length shapes.now < 2 ^ 32 }
+    requires shapes { AreShapes shapes.now }
+    ensures same { IfOk result (λ graphs. graphs.shapes.now ≡ shapes.now) }
+    ensures ranked { IfOk result AreRanked }
 {
-    let Some(item) = item else {
-        return found;
-    };
-    let Some(cycle) = found else {
-        return Some(Cycle { kind, item });
-    };
-    if cycle.item <= item {
-        return Some(cycle);
+    Ok(Graphs {
+        shapes,
+        contains: rank_contained(alloc, shapes)?,
+        embeds: rank_listed(alloc, shapes, CycleKind::Embeds)?,
+        aliases: rank_listed(alloc, shapes, CycleKind::OfAlias)?,
+        constraints: rank_listed(alloc, shapes, CycleKind::Constraint)?,
+        values: rank_listed(alloc, shapes, CycleKind::Value)?,
+    })
+}
+
+impl Graphs<'_> {
+    /// What was found of this kind.
+    fn of(&self, kind: CycleKind) -> &Ranked
+        requires { AreRanked self.now }
+        ensures { IsRanked (IsEdge self.now.shapes.now kind) (length self.now.shapes.now) result.now }
+    {
+        match kind {
+            CycleKind::Contains => &self.contains,
+            CycleKind::Embeds => &self.embeds,
+            CycleKind::OfAlias => &self.aliases,
+            CycleKind::Constraint => &self.constraints,
+            CycleKind::Value => &self.values,
+        }
     }
-    Some(Cycle { kind, item })
+
+    /// Whether a declaration lies on a cycle of this kind.
+    fn is_cyclic(&self, kind: CycleKind, item: u32) -> bool
+        requires ranked { AreRanked self.now }
+        requires there { item < length self.now.shapes.now }
+        ensures yes { IsTrue result → IsCyclic self.now.shapes.now kind item }
+        ensures no { IsFalse result → IsCyclic self.now.shapes.now kind item → ⊥ }
+    {
+        self.of(kind).cyclic[item as usize]
+    }
+
+    /// The first kind of which a declaration lies on a cycle, if it lies on one.
+    fn kind_of(&self, item: u32) -> Option<CycleKind>
+        requires ranked { AreRanked self.now }
+        requires there { item < length self.now.shapes.now }
+        ensures { IsFirstKind self.now.shapes.now item result }
+    {
+        if self.is_cyclic(CycleKind::Contains, item) {
+            Some(CycleKind::Contains)
+        } else if self.is_cyclic(CycleKind::Embeds, item) {
+            Some(CycleKind::Embeds)
+        } else if self.is_cyclic(CycleKind::OfAlias, item) {
+            Some(CycleKind::OfAlias)
+        } else if self.is_cyclic(CycleKind::Constraint, item) {
+            Some(CycleKind::Constraint)
+        } else if self.is_cyclic(CycleKind::Value, item) {
+            Some(CycleKind::Value)
+        } else {
+            None
+        }
+    }
+
+    /// The first declaration that lies on a cycle, and the first kind of which it lies on one.
+    fn first(&self) -> Option<(CycleKind, u32)>
+        requires size { length self.now.shapes.now < 2 ^ 32 }
+        requires ranked { AreRanked self.now }
+        ensures found { IfSome result (λ cycle. IsFirstCycle self.now.shapes.now cycle.0 cycle.1) }
+        ensures none { IfNone result ((kind : CycleKind) (s : ℕ) → IsCyclic self.now.shapes.now kind s → ⊥) }
+    {
+        for item in 0..self.shapes.len() as u32 {
+            if let Some(kind) = self.kind_of(item) {
+                return Some((kind, item));
+            }
+        }
+        None
+    }
+
+    /// For each declaration the first kind of which it lies on a cycle, if it lies on one.
+    fn kinds(&self, alloc: Global) -> Result<Vec<Option<CycleKind>>, AllocError>
+        requires size { length self.now.shapes.now < 2 ^ 32 }
+        requires ranked { AreRanked self.now }
+        ensures { IfOk result (λ kinds. AreFirstKinds self.now.shapes.now (length self.now.shapes.now) kinds.items) }
+    {
+        let mut kinds = Vec::with_capacity(alloc, self.shapes.len())?;
+        for item in 0..self.shapes.len() as u32 {
+            kinds.push(self.kind_of(item))?;
+        }
+        Ok(kinds)
+    }
+
+    /// The ranks, where nothing lies on a cycle.
+    fn into_ranks(self) -> Ranks
+        requires ranked { AreRanked self }
+        requires acyclic { (kind : CycleKind) (s : ℕ) → IsCyclic self.shapes.now kind s → ⊥ }
+        ensures ranks { (kind : CycleKind) (s t : ℕ) → IsEdge self.entry.shapes.now kind s t
+            → rank_in result kind t < rank_in result kind s }
+        ensures every { HasRanks result (length self.entry.shapes.now) }
+    {
+        let Graphs {
+            shapes: _,
+            contains,
+            embeds,
+            aliases,
+            constraints,
+            values,
+        } = self;
+        Ranks {
+            contains: contains.ranks,
+            embeds: embeds.ranks,
+            aliases: aliases.ranks,
+            constraints: constraints.ranks,
+            values: values.ranks,
+        }
+    }
+}
+
+/// Tells of each declaration whether it lies on a forbidden cycle: the first kind of which it lies on one. Takes time
+/// in proportion to the declarations, their parameters, and what they contain and list.
+pub fn cycle_kinds(
+    alloc: Global,
+    shapes: &[DeclShape],
+) -> Result<Vec<Option<CycleKind>>, AllocError>
+    requires size { length shapes.now < 2 ^ 32 }
+    requires shapes { AreShapes shapes.now }
+    ensures { IfOk result (λ kinds. AreFirstKinds shapes.now (length shapes.now) kinds.items) }
+{
+    let graphs = rank_all(alloc, shapes)?;
+    graphs.kinds(alloc)
 }
 
 /// Tells whether one of these declarations lies on a forbidden cycle: of containment, of embedding, of aliases, of type
@@ -181,30 +301,21 @@ pub fn check_cycles(alloc: Global, shapes: &[DeclShape]) -> Result<Ranks, CycleF
     ensures found { (kind : CycleKind) (item : ℕ) → result ≡ Err (CycleFault.Found kind item)
         → IsFirstCycle shapes.now kind item }
 {
-    let contains = rank_contained(alloc, shapes)?;
-    let embeds = rank_listed(alloc, shapes, CycleKind::Embeds)?;
-    let aliases = rank_listed(alloc, shapes, CycleKind::OfAlias)?;
-    let constraints = rank_listed(alloc, shapes, CycleKind::Constraint)?;
-    let values = rank_listed(alloc, shapes, CycleKind::Value)?;
-    let found = earlier(None, CycleKind::Contains, contains.first);
-    let found = earlier(found, CycleKind::Embeds, embeds.first);
-    let found = earlier(found, CycleKind::OfAlias, aliases.first);
-    let found = earlier(found, CycleKind::Constraint, constraints.first);
-    let found = earlier(found, CycleKind::Value, values.first);
-    if let Some(Cycle { kind, item }) = found {
+    let graphs = rank_all(alloc, shapes)?;
+    if let Some((kind, item)) = graphs.first() {
         return Err(CycleFault::Found { kind, item });
     }
-    Ok(Ranks {
-        contains: contains.ranks,
-        embeds: embeds.ranks,
-        aliases: aliases.ranks,
-        constraints: constraints.ranks,
-        values: values.ranks,
-    })
+    Ok(graphs.into_ranks())
 }
 
 /// Where each edge of a kind leads to a smaller rank, no declaration lies on a cycle of that kind.
 pub fn ranks_exclude_cycles()
     ensures { (shapes : List DeclShape) (kind : CycleKind) (rank : ℕ → ℕ)
         → ((s t : ℕ) → IsEdge shapes kind s t → rank t < rank s) → (s : ℕ) → IsCyclic shapes kind s → ⊥ }
+{}
+
+/// A declaration contains no parameters but its own, so an argument for which there is none counts for nothing.
+pub fn only_own_parameters_count()
+    ensures { (shapes : List DeclShape) → AreShapes shapes → (s : ℕ) (of : DeclShape) → slice_get shapes s ≡ Some of
+        → (k : ℕ) → of.params ≤ k → Owns shapes s (parameter k) → ⊥ }
 {}

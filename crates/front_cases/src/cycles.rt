@@ -1,12 +1,12 @@
 //! Cases of declarations that may lie on cycles. Each is written in words, with `;` between two: `[N]` where it has N
 //! type parameters, then what it holds, then the lists of the other kinds.
 
-ghost use Rattle.std.specs.Prelude.{◌<◌, ◌^◌, length};
+ghost use Rattle.std.specs.Prelude.{◌<◌, ◌^◌, IfOk, length};
 ghost use Rattle.cycle_rules.specs.Cycles.{AreShapes};
 
 use crate::fitting::are_shapes;
 use crate::no_answer::NoAnswer;
-use cycle_rules::{CycleKind, DeclShape, Form, check_cycles};
+use cycle_rules::{CycleKind, DeclShape, Form, check_cycles, cycle_kinds};
 use sqlite_items::Items;
 use std::alloc::{AllocError, Global};
 
@@ -161,13 +161,29 @@ fn read_shapes(alloc: Global, words: &[&str]) -> Result<Vec<DeclShape>, NoAnswer
     Ok(reader.read)
 }
 
-/// The first cycle of these declarations, if there is one.
-pub fn checked(alloc: Global, words: &[&str]) -> Result<String, NoAnswer> {
+/// The declarations that these words are, if the check of cycles takes them.
+fn proper_shapes(alloc: Global, words: &[&str]) -> Result<Vec<DeclShape>, NoAnswer>
+    ensures size { IfOk result (λ shapes. length shapes.items < 2 ^ 32) }
+    ensures shapes { IfOk result (λ shapes. AreShapes shapes.items) }
+{
     let shapes = read_shapes(alloc, words)?;
     if shapes.len() > u32::MAX as usize || !are_shapes(&shapes) {
         return Err(NoAnswer::NoCase);
     }
+    Ok(shapes)
+}
+
+/// The first cycle of these declarations, if there is one.
+pub fn checked(alloc: Global, words: &[&str]) -> Result<String, NoAnswer> {
+    let shapes = proper_shapes(alloc, words)?;
     Ok(found(alloc, &shapes)?)
+}
+
+/// For each of these declarations the first kind of which it lies on a cycle, if it lies on one.
+pub fn kinds(alloc: Global, words: &[&str]) -> Result<String, NoAnswer> {
+    let shapes = proper_shapes(alloc, words)?;
+    let kinds = cycle_kinds(alloc, &shapes)?;
+    Ok(format!(in alloc; "{kinds:?}")?)
 }
 
 /// What the check answers, which has ranks where there is no cycle.

@@ -31,10 +31,6 @@ fn form_fits(shapes: &[DeclShape], params: u32, form: &Form) -> bool
             if place >= shapes.len() {
                 return false;
             }
-            let of = &shapes[place];
-            if arguments.len() != of.params as usize {
-                return false;
-            }
             all_fit(shapes, params, arguments.as_slice())
         }
         Form::Parts(parts) => all_fit(shapes, params, parts.as_slice()),
@@ -67,8 +63,7 @@ fn shape_fits(shapes: &[DeclShape], shape: &DeclShape) -> bool
         && all_below(&shape.values, count)
 }
 
-/// Whether each number in these declarations names a declaration or a parameter, and each application has as many
-/// arguments as there are parameters.
+/// Whether each number in these declarations names a declaration or a parameter.
 pub fn are_shapes(shapes: &[DeclShape]) -> bool
     ensures { IsTrue result → AreShapes shapes.now }
 {

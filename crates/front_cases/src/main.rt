@@ -58,6 +58,7 @@ fn answer_words(alloc: Global, call: &str, text: &[u8]) -> Result<String, NoAnsw
         "convert" => constants::converted(alloc, &words),
         "operators" => constants::operators_of(alloc, &words),
         "cycles" => cycles::checked(alloc, &words),
+        "kinds" => cycles::kinds(alloc, &words),
         "code" => codes::row(alloc, &words),
         "compare" => values::compared(alloc, &words),
         _ => Err(NoAnswer::NoCase),

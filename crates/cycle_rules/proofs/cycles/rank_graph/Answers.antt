@@ -1,15 +1,13 @@
-use Rattle.std.proofs.Common.{ℕ, ◌<◌, List, map, slice_index, ◌∙◌, subst}
-use Rattle.std.specs.Prelude.{IfNone}
+use Rattle.std.proofs.Common.{map, ◌∙◌}
 use Rattle.std.proofs.lemmas.List.{length-map}
-use Rattle.cycle_rules.specs.Paths.{Arrow}
+use Rattle.cycle_rules.proofs.SearchLemmas.{falls_off}
 use Rattle.cycle_rules.proofs.cycles.rank_graph.Goals as goal
 
 pub returns : goal.returns
 returns c =
-    let graph = c.args.graph.now in
+    let graph = map (λ t. t.now) c.args.graph.now in
     record {
-      sized = c.in_ok-ranks.ensures.sized ∙ length-map graph (λ t. t.now);
-      found = c.first_on_cycle-first.ensures.found;
-      least = c.first_on_cycle-first.ensures.first;
-      falls = subst (λ (l : List ℕ). IfNone c.first_on_cycle-first.result ((s t : ℕ) → Arrow (map (λ t. t.now) graph) s t → slice_index l t < slice_index l s)) c.deref.ensures.value c.first_on_cycle-first.ensures.none;
+      sized = c.in_ok-ranks.ensures.sized ∙ length-map c.args.graph.now (λ t. t.now);
+      cyclic = c.in_ok-cyclic.ensures;
+      falls = λ s t arrow none. falls_off graph c.in_ok-ranks.ranks.items c.in_ok-ranks.ensures s t arrow none;
     }
