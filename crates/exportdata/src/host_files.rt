@@ -1,4 +1,5 @@
-ghost use Rattle.std.specs.Prelude.{◌≡◌, ℕ, None};
+ghost use Rattle.std.specs.Prelude.{◌≡◌, ◌++◌, ℕ, List, None, IsTrue};
+ghost use Rattle.std.specs.Io.KnownBytes.{Appends};
 ghost use Rattle.exportdata.specs.Growth.{Grows};
 
 use outside::{FetchFault, Files, StoreFault};
@@ -86,8 +87,12 @@ fn read_file<R: rt::Files>(
     Err(FetchFault::Failed)
 }
 
-/// Writes all bytes, and says whether it did.
-pub fn write_all<W: Write>(to: &mut W, bytes: &[u8]) -> bool {
+/// Writes all bytes, and says whether it did. Else the first of them were written, or none.
+pub fn write_all<W: Write>(to: &mut W, bytes: &[u8]) -> bool
+    ensures all { IsTrue result → Appends (W.contents to.old) (W.contents to.new) bytes.now }
+    ensures first { (done rest : List ℕ) × (bytes.now ≡ done ++ rest)
+        × Appends (W.contents to.old) (W.contents to.new) done }
+{
     let mut rest = bytes;
     for _ in 0..u64::MAX {
         if rest.is_empty() {

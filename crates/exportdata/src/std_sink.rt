@@ -1,4 +1,7 @@
-ghost use Rattle.std.specs.Prelude.{◌≡◌, ◌≤◌, ℕ, None, OnOk, OnErr};
+ghost use Rattle.std.specs.Prelude.{◌≡◌, ◌≤◌, ℕ, [], None, OnOk, OnErr};
+ghost use Rattle.std.specs.Io.KnownBytes.{Appends, append_known};
+ghost use Rattle.outside.specs.Sinks.{Wrote, WroteSome};
+ghost use Rattle.exportdata.specs.Gathering.{untold};
 ghost use Rattle.outside.specs.Counts.{Rose};
 
 use crate::host_files::write_all;
@@ -30,6 +33,8 @@ impl<W: Write + Drop> StdSink<W> {
 
     /// Writes what was gathered.
     pub fn finish(&mut self) -> Result<(), SinkFault>
+        ensures written { OnOk result (Appends (W.contents self.old.to) (W.contents self.new.to) self.old.block.items) }
+        ensures empty { self.new.block.items ≡ [] }
         ensures sound { OnOk result (self.new.faults ≡ self.old.faults) }
         ensures failed { OnErr result (Rose self.old.faults self.new.faults) }
         ensures counted { self.old.faults ≤ self.new.faults }
@@ -45,9 +50,16 @@ impl<W: Write + Drop> StdSink<W> {
 }
 
 impl<W: Write + Drop> Sink for StdSink<W> {
-    ghost state = { λ sink. record { written = None; faults = sink.faults } };
+    ghost state = { λ sink. untold sink.faults };
 
-    fn put(&mut self, piece: &[u8]) -> Result<(), SinkFault> {
+    // What was written and gathered grows by the piece.
+    fn put(&mut self, piece: &[u8]) -> Result<(), SinkFault>
+        ensures whole { OnOk result (Wrote (untold self.old.faults) (untold self.new.faults) piece.now) }
+        ensures part { OnErr result (WroteSome (untold self.old.faults) (untold self.new.faults) piece.now) }
+        ensures counted { self.old.faults ≤ self.new.faults }
+        ensures gathered { OnOk result (Appends (append_known (W.contents self.old.to) self.old.block.items)
+            (append_known (W.contents self.new.to) self.new.block.items) piece.now) }
+    {
         if self.block.capacity() - self.block.len() < piece.len() {
             self.finish()?;
         }
