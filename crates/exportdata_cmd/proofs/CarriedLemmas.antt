@@ -15,10 +15,10 @@ use Rattle.exportdata_cmd.specs.Printed.{Line, line}
 use Rattle.exportdata_cmd.specs.Endings.{Ending, output_end, end_of}
 use Rattle.exportdata_cmd.specs.Sources.{SourceFault, missing, too_long, breach, Opens, source_end}
 use Rattle.exportdata_cmd.specs.Due.{source_asked, Yields, Due}
-use Rattle.exportdata_cmd.specs.Running.{AreFirstDue, ReadsDeclarations, TakesNodes, MayEnd, EndedAs, BrokeOff, FellShort}
+use Rattle.exportdata_cmd.specs.Running.{AreFirstDue, MayEnd, EndedAs, BrokeOff}
 use Rattle.exportdata_cmd.specs.Carried.{GivesOne, Refuses, Halted, Answered, IsOpened, Owes, Carried, ReportsOf}
 use Rattle.exportdata_cmd.specs.declared.exits.Status.{Status}
-use Rattle.exportdata_cmd.specs.declared.exits.Status.TheVariants.{Done, Refused, Files, Output as OutputStatus}
+use Rattle.exportdata_cmd.specs.declared.exits.Status.TheVariants.{Done, Refused, Files, Memory, Output as OutputStatus}
 use Rattle.exportdata_cmd.specs.declared.error_line.ErrorLine.{ErrorLine}
 use Rattle.exportdata_cmd.specs.declared.error_line.ErrorLine.TheVariants.{WrongWord, Missing, CannotRead, Damaged}
 use Rattle.exportdata_cmd.specs.declared.error_line.ErrorLine.TheVariants.{LimitBytes, LimitNodes, NoMemory}
@@ -57,7 +57,7 @@ module _ (words : List Word) (held : Option Held) (before after : ℕ) (out : Si
       subst (λ end. MayEnd words held before after (after_lines [] end)) (sym is) (inl (fault_end request fault asked opens))
   refused request error asked (inr (inl (rose, is))) =
       subst (λ end. MayEnd words held before after (after_lines [] end)) (sym is)
-      (inr (inr (inl (record { request = request; asked = asked; failed = rose; shown = refl }))))
+      (inr (inr (record { request = request; asked = asked; failed = rose; shown = refl })))
   refused request error asked (inr (inr is)) =
       subst (λ end. MayEnd words held before after (after_lines [] end)) (sym is)
       (inr (inl (record { first = inl refl; shown = refl })))
@@ -82,9 +82,6 @@ module _ (words : List Word) (held : Option Held) (before after : ℕ) (out out_
   first_lines lines (inl none) = inl none
   first_lines lines (inr (due, n, yields, is)) = inr (due, n, due_lines due yields, is)
 
-  takes : ReadsDeclarations request → TakesNodes words held
-  takes reads = record { request = request; image = image; asked = here.asked; reads = reads; opened = here.opened }
-
   owes_halted : (error : ErrorLine) → Halted image request error out out_after
       → Owes words held before after error out out_after
   owes_halted (WrongWord number) halted = absurd halted
@@ -92,12 +89,7 @@ module _ (words : List Word) (held : Option Held) (before after : ℕ) (out out_
   owes_halted (CannotRead file) halted = absurd halted
   owes_halted (Damaged label fault) halted = absurd halted
   owes_halted LimitBytes halted = absurd halted
-  owes_halted LimitNodes (reads, wrote) = record {
-    lines = [];
-    ends = inr (inr (inr (record { takes = takes reads; shown = refl })));
-    first = inl refl;
-    wrote = wrote;
-  }
+  owes_halted LimitNodes halted = absurd halted
   owes_halted NoMemory (lines, wrote, first) = record {
     lines = lines;
     ends = inr (inl (record { first = first_lines lines first; shown = refl }));
@@ -144,12 +136,12 @@ never_ended words held before after status out out_after (request, image, here, 
 
 -- the end that a run came to is what was due, or fell short
 completed : (words : List Word) (held : Option Held) (end due : Ending) (status : Status) (out out_after err err_after : SinkState)
-    → EndedAs end status out out_after err err_after → (end ≡ due) ⊎ FellShort words held end.status
-    → EndedAs due status out out_after err err_after ⊎ FellShort words held status
+    → EndedAs end status out out_after err err_after → (end ≡ due) ⊎ (end.status ≡ Memory)
+    → EndedAs due status out out_after err err_after ⊎ (status ≡ Memory)
 completed words held end due status out out_after err err_after is (inl same) =
     inl (subst (λ e. EndedAs e status out out_after err err_after) same is)
 completed words held end due status out out_after err err_after is (inr short) =
-    inr (subst (λ s. FellShort words held s) (sym is.its_status) short)
+    inr (is.its_status ∙ short)
 
 image_is : (a b : FullFile) → ◌≡◌ {A = Result FullFile SourceFault} (Ok a) (Ok b) → a ≡ b
 image_is a b e = cc
@@ -166,7 +158,7 @@ opened_once words files request image here end other seen asked opens yields =
 pub ended_complete : (words : List Word) (held : Option Held) (before after : ℕ) (status : Status)
     (out out_after err : SinkState)
     → Carried words held before after (Ok status) out out_after → (due : Ending) → Due words held due → IsSome held
-    → (Rose before after → ⊥) → EndedAs due status out out_after err err ⊎ FellShort words held status
+    → (Rose before after → ⊥) → EndedAs due status out out_after err err ⊎ (status ≡ Memory)
 ended_complete words None before after status out out_after err done due is told readable =
     let e : false ≡ true = told in absurd cc
 ended_complete words (Some files) before after status out out_after err (request, image, here, (lines, yields, wrote)) due is told readable =
@@ -258,7 +250,7 @@ module _ (words : List Word) (held : Option Held) (before after : ℕ) (error : 
   pub reported_complete : (status : Status) (err err_after : SinkState) → ReportsOf error status err err_after
       → (due : Ending) → Due words held due → IsSome held → (Rose before after → ⊥)
       → (Rose err.faults err_after.faults → ⊥)
-      → EndedAs due status out out_after err err_after ⊎ FellShort words held status
+      → EndedAs due status out out_after err err_after ⊎ (status ≡ Memory)
   reported_complete status err err_after (end, which, inl r) due is told readable writable =
       completed words held (after_lines owes.lines end) due status out out_after err err_after (ended_so status err err_after end r)
       (complete words held before after (after_lines owes.lines end) due (may end which) (no_lines end which) is told readable)

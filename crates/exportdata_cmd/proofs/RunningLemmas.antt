@@ -1,6 +1,6 @@
 -- How a run ends, and what it leaves where it is complete.
 use Rattle.std.proofs.Common.{◌≡◌, ℕ, ◌⊎◌, inl, inr, List, false, true, Option, None, Some, IsSome, Result, Ok, Err}
-use Rattle.std.proofs.Common.{sym, ◌∙◌, ap, subst}
+use Rattle.std.proofs.Common.{sym, ◌∙◌, ap}
 use Rattle.outside.specs.Counts.{Rose}
 use Rattle.outside.specs.Files.{Held}
 use Rattle.command_words.specs.Texts.{Word}
@@ -9,9 +9,9 @@ use Rattle.name_index.specs.FullFile.{FullFile}
 use Rattle.exportdata_cmd.specs.Endings.{Ending}
 use Rattle.exportdata_cmd.specs.Sources.{SourceFault, missing, too_long, breach}
 use Rattle.exportdata_cmd.specs.Due.{DueOf, DueFor, Due}
-use Rattle.exportdata_cmd.specs.Running.{MayEnd, FellShort}
+use Rattle.exportdata_cmd.specs.Running.{MayEnd}
 use Rattle.exportdata_cmd.specs.declared.exits.Status.{Status}
-use Rattle.exportdata_cmd.specs.declared.exits.Status.TheVariants.{Done, Refused, Files, Memory, Limit}
+use Rattle.exportdata_cmd.specs.declared.exits.Status.TheVariants.{Done, Refused, Files, Memory}
 use Rattle.exportdata_cmd.proofs.DueLemmas.{OneOutcome, one_due, yields_either}
 
 -- STATUS FILES
@@ -38,25 +38,18 @@ pub unread : (words : List Word) (held : Option Held) (before after : ℕ) (end 
 unread words held before after end (inl due) files = absurd (due_not_files due.0 held end due.2 files)
 unread words held before after end (inr (inl starved)) files =
     let e = sym (ap (λ end. end.status) starved.shown) ∙ files in absurd cc
-unread words held before after end (inr (inr (inl is))) files = is.failed
-unread words held before after end (inr (inr (inr crowded))) files =
-    let e = sym (ap (λ end. end.status) crowded.shown) ∙ files in absurd cc
+unread words held before after end (inr (inr is)) files = is.failed
 
 -- COMPLETENESS
-
-fell : (words : List Word) (held : Option Held) (a b : Status) → a ≡ b → FellShort words held b → FellShort words held a
-fell words held a b is short = subst (λ s. FellShort words held s) (sym is) short
 
 pub complete : (words : List Word) (held : Option Held) (before after : ℕ) (end due : Ending)
     → MayEnd words held before after end
     → OneOutcome words held end → Due words held due → IsSome held → (Rose before after → ⊥)
-    → (end ≡ due) ⊎ FellShort words held end.status
+    → (end ≡ due) ⊎ (end.status ≡ Memory)
 complete words None before after end due may one is told readable = let e : false ≡ true = told in absurd cc
 complete words (Some files) before after end due (inl is_due) one is told readable =
     inl (one_due words files end due one is_due is)
 complete words (Some files) before after end due (inr (inl starved)) one is told readable =
-    inr (fell words (Some files) end.status Memory (ap (λ end. end.status) starved.shown) tt)
-complete words (Some files) before after end due (inr (inr (inl was_unread))) one is told readable =
+    inr (ap (λ end. end.status) starved.shown)
+complete words (Some files) before after end due (inr (inr was_unread)) one is told readable =
     absurd (readable was_unread.failed)
-complete words (Some files) before after end due (inr (inr (inr crowded))) one is told readable =
-    inr (fell words (Some files) end.status Limit (ap (λ end. end.status) crowded.shown) crowded.takes)

@@ -20,11 +20,13 @@ use Rattle.name_index.specs.Envelope.{Envelope}
 use Rattle.session.specs.Answers.{Outcome, HasOutcome}
 use Rattle.session.specs.Asked.{read_for, declared_numbers}
 use Rattle.session.proofs.Outcomes.{one_outcome}
+use Rattle.session.proofs.Room.{most_types_within}
+use Rattle.name_index.specs.declared.limits.TheConstants.{FILE_LIMIT}
 use Rattle.exportdata_cmd.specs.Endings.{Ending, output_end}
 use Rattle.exportdata_cmd.specs.Showing.{Answer, unknown, damaged, declared, IsAnswer, answer_texts, decoded_line}
 use Rattle.exportdata_cmd.specs.Showing.{AreDecoded, shown_status, shown_end, Shows}
 use Rattle.exportdata_cmd.specs.LookedUp.{answered, IsLookedUp, AreLookedUp, OnlyRead}
-use Rattle.exportdata_cmd.specs.Carried.{GivesOne}
+use Rattle.exportdata_cmd.specs.Carried.{GivesOne, HasRoom}
 use Rattle.exportdata_cmd.specs.declared.exits.Status.{Status}
 use Rattle.exportdata_cmd.specs.declared.exits.Status.TheVariants.{Done, Refused}
 use Rattle.exportdata_cmd.specs.declared.showing.LookedUp.{LookedUp}
@@ -185,3 +187,7 @@ module _ (image : FullFile) (one : GivesOne image) (read : List (ℕ × Outcome)
     shown = ap (λ s. output_end s (answer_texts (answered read names answers)
         ++ decoded_line (length (declared_numbers read)) (length (listed image.packages)) ∷ [])) is;
   }
+
+-- a file that isn't too long has room for its types
+pub has_room : (own bytes : List ℕ) (image : FullFile) → Envelope own bytes image → length bytes ≤ FILE_LIMIT → HasRoom image
+has_room own bytes image env short = let few = most_types_within own bytes image env in omega (arith, few, short)

@@ -1,5 +1,5 @@
 -- What the steps of a run leave on `out`, and what is then still owed to `err`.
-use Rattle.std.specs.Prelude.{◌≡◌, ℕ, ◌⊎◌, List, [], take, Option, Result, Ok, Err}
+use Rattle.std.specs.Prelude.{◌≡◌, ◌≤◌, ℕ, ◌⊎◌, List, [], take, Option, Result, Ok, Err}
 use Rattle.std.specs.List.{concat}
 use Rattle.outside.specs.Counts.{Rose}
 use Rattle.outside.specs.Files.{Held}
@@ -8,15 +8,17 @@ use Rattle.command_words.specs.Texts.{Word, Source}
 use Rattle.command_words.specs.Forms.{Request, IsForm}
 use Rattle.name_index.specs.FullFile.{FullFile}
 use Rattle.session.specs.Answers.{Outcome, HasOutcome}
+use Rattle.session.specs.OpenFile.{most_types}
 use Rattle.exportdata_cmd.specs.Printed.{Line}
 use Rattle.exportdata_cmd.specs.Endings.{Ending, output_end, cannot_read_end, no_memory_end, end_of}
 use Rattle.exportdata_cmd.specs.Sources.{SourceFault, Opens, source_end}
 use Rattle.exportdata_cmd.specs.Due.{source_asked, Yields}
-use Rattle.exportdata_cmd.specs.Running.{AreFirstDue, ReadsDeclarations, MayEnd}
+use Rattle.exportdata_cmd.specs.Running.{AreFirstDue, MayEnd}
 use Rattle.exportdata_cmd.specs.declared.exits.Status.{Status}
 use Rattle.exportdata_cmd.specs.declared.exits.Status.TheVariants.{Output as OutputStatus}
 use Rattle.exportdata_cmd.specs.declared.error_line.ErrorLine.{ErrorLine}
 use Rattle.exportdata_cmd.specs.declared.error_line.ErrorLine.TheVariants as errors
+use Rattle.exportdata_cmd.specs.declared.command.TheConstants.{NODE_LIMIT}
 use Rattle.exportdata_cmd.specs.declared.command.Stop.{Stop}
 use Rattle.exportdata_cmd.specs.declared.command.Stop.TheVariants.{Output, Error}
 
@@ -25,6 +27,10 @@ abbrev pub GivesOne : FullFile → Type 0
 GivesOne image =
     (path name : List ℕ) (i j : ℕ) (a b : Outcome)
     → HasOutcome image path name i a → HasOutcome image path name j b → (i ≡ j) × (a ≡ b)
+
+-- the file has no more types than a command may have nodes
+abbrev pub HasRoom : FullFile → Type 0
+HasRoom image = most_types image ≤ NODE_LIMIT
 
 -- why a source isn't open, by the end that its error line makes
 abbrev pub Refuses : Source → Option Held → ℕ → ℕ → Ending → Type 0
@@ -46,12 +52,11 @@ Broken image request before after =
     (status : Status) × (lines : List Line) × Yields image request (output_end status lines)
     × WroteSome before after (concat lines)
 
--- memory is wanting after the first lines, or nodes are before any
+-- memory is wanting after the first lines
 abbrev pub Halted : FullFile → Request → ErrorLine → SinkState → SinkState → Type 0
 Halted image request errors.NoMemory before after =
     (lines : List Line) × Wrote before after (concat lines)
     × ((lines ≡ []) ⊎ ((due : Ending) × (n : ℕ) × Yields image request due × (lines ≡ take n due.output)))
-Halted image request errors.LimitNodes before after = ReadsDeclarations request × Wrote before after []
 Halted image request _ before after = ⊥
 
 abbrev pub Answered : FullFile → Request → Result Status Stop → SinkState → SinkState → Type 0

@@ -1,18 +1,15 @@
 -- How a run ends: as is due, or otherwise for a cause.
-use Rattle.std.specs.Prelude.{◌≡◌, ℕ, ◌⊎◌, List, [], take, Option, Ok}
+use Rattle.std.specs.Prelude.{◌≡◌, ℕ, ◌⊎◌, List, [], take, Option}
 use Rattle.std.specs.List.{concat}
 use Rattle.outside.specs.Counts.{Rose}
 use Rattle.outside.specs.Files.{Held}
 use Rattle.outside.specs.Sinks.{SinkState, Wrote, WroteSome}
 use Rattle.command_words.specs.Texts.{Word}
-use Rattle.command_words.specs.Forms.{Request, list, show, IsForm, IsFirstWrong}
-use Rattle.name_index.specs.FullFile.{FullFile}
+use Rattle.command_words.specs.Forms.{Request, IsForm, IsFirstWrong}
 use Rattle.exportdata_cmd.specs.Printed.{Line}
-use Rattle.exportdata_cmd.specs.Endings.{Ending, wrong_word_end, cannot_read_end, limit_nodes_end, no_memory_end}
-use Rattle.exportdata_cmd.specs.Sources.{Opens}
+use Rattle.exportdata_cmd.specs.Endings.{Ending, wrong_word_end, cannot_read_end, no_memory_end}
 use Rattle.exportdata_cmd.specs.Due.{source_asked, Due}
 use Rattle.exportdata_cmd.specs.declared.exits.Status.{Status}
-use Rattle.exportdata_cmd.specs.declared.exits.Status.TheVariants.{Memory, Limit}
 
 -- no line, or the first lines of what is due
 abbrev pub AreFirstDue : List Word → Option Held → List Line → Type 0
@@ -31,31 +28,10 @@ pub record IsUnread (words : List Word) (before after : ℕ) (end : Ending) : Ty
   pub failed : Rose before after
   pub shown : end ≡ cannot_read_end (source_asked request).file
 
--- the request reads declarations, a case for each command
-abbrev pub ReadsDeclarations : Request → Type 0
-ReadsDeclarations (list source) = ⊥
-ReadsDeclarations (show source names) = Unit {0}
-
--- the words ask for declarations of an open source, whose types take nodes
-pub record TakesNodes (words : List Word) (held : Option Held) : Type 0 where
-  pub request : Request
-  pub image : FullFile
-  pub asked : IsForm words request
-  pub reads : ReadsDeclarations request
-  pub opened : Opens held (source_asked request) (Ok image)
-
--- the types that the words ask for have too many nodes
-pub record IsCrowded (words : List Word) (held : Option Held) (end : Ending) : Type 0 where
-  pub takes : TakesNodes words held
-  pub shown : end ≡ limit_nodes_end
-
 -- A run may end so where no sink fails. The count of faults of the files goes from before to after.
 abbrev pub MayEnd : List Word → Option Held → ℕ → ℕ → Ending → Type 0
 MayEnd words held before after end =
-    Due words held end
-    ⊎ (IsStarved words held end
-    ⊎ (IsUnread words before after end
-    ⊎ IsCrowded words held end))
+    Due words held end ⊎ (IsStarved words held end ⊎ IsUnread words before after end)
 
 -- The run ended so: with this status, and with just these lines on both sinks.
 pub record EndedAs (end : Ending) (status : Status) (out out_after err err_after : SinkState) : Type 0 where
@@ -69,12 +45,6 @@ abbrev pub BrokeOff : Ending → SinkState → SinkState → SinkState → SinkS
 BrokeOff end out out_after err err_after =
     (WroteSome out out_after (concat end.output) × Wrote err err_after [])
     ⊎ (Wrote out out_after (concat end.output) × WroteSome err err_after end.error)
-
--- The run fell short of what is due: for want of memory, or since types have too many nodes.
-abbrev pub FellShort : List Word → Option Held → Status → Type 0
-FellShort words held Memory = Unit {0}
-FellShort words held Limit = TakesNodes words held
-FellShort words held _ = ⊥
 
 -- Words that aren't all text may be refused so: the first wrong word is said, or that memory is wanting.
 abbrev pub MayRefuse : List Word → Ending → Type 0

@@ -9,7 +9,7 @@ ghost use Rattle.exportdata_cmd.specs.Printed.{Line};
 ghost use Rattle.exportdata_cmd.specs.Endings.{output_end};
 ghost use Rattle.exportdata_cmd.specs.Putting.{PutsLines};
 ghost use Rattle.exportdata_cmd.specs.Due.{source_asked, Yields};
-ghost use Rattle.exportdata_cmd.specs.Carried.{GivesOne, Answered, Carried};
+ghost use Rattle.exportdata_cmd.specs.Carried.{GivesOne, HasRoom, Answered, Carried};
 
 use crate::error_line::ErrorLine;
 use crate::exits::Status;
@@ -73,7 +73,8 @@ fn answer<'a, S: Sink>(
     image: &Image,
     out: &mut S,
 ) -> Result<Status, Stop<'a>>
-    requires { GivesOne image.now }
+    requires one { GivesOne image.now }
+    requires room { HasRoom image.now }
     ensures { Answered image.now (request_of command.entry) result (S.state out.old) (S.state out.new) }
 {
     match command {
@@ -89,8 +90,9 @@ fn list<'a, S: Sink>(alloc: Global, image: &Image, out: &mut S) -> Result<Status
     finish(put_packages(alloc, image, out), Status::Done)
 }
 
-/// The most nodes of the types that a command reads: 2^24.
-const NODE_LIMIT: u32 = 16_777_216;
+/// The most nodes of the types that a command reads: 2^24, besides the 32 numbers of predeclared types. No file of at
+/// most 16 MiB has more types.
+const NODE_LIMIT: u32 = 16_777_216 + 32;
 
 // Shows what the names of a source are. All are looked up before a line is put.
 fn show<'a, S: Sink>(
@@ -99,7 +101,8 @@ fn show<'a, S: Sink>(
     image: &Image,
     out: &mut S,
 ) -> Result<Status, Stop<'a>>
-    requires { GivesOne image.now }
+    requires one { GivesOne image.now }
+    requires room { HasRoom image.now }
     ensures { (source : Source) → Answered image.now (show_request source (names_of names.entry)) result
         (S.state out.old) (S.state out.new) }
 {

@@ -1,10 +1,11 @@
 //! The lines of `show`.
 
-ghost use Rattle.std.specs.Prelude.{◌≡◌, ◌⊎◌, ◌∷◌, ◌++◌, List, [], ℕ, length, Some, Ok, IfOk, OnOk};
+ghost use Rattle.std.specs.Prelude.{◌≡◌, ◌<◌, ◌⊎◌, ◌∷◌, ◌++◌, List, [], ℕ, length, Some, Ok, IfOk, OnOk, IsErrOf};
 ghost use Rattle.std.specs.List.{AllByRecursion};
 ghost use Rattle.command_words.specs.Texts.{Name};
 ghost use Rattle.command_words.specs.Forms.{name_of, names_of};
 ghost use Rattle.session.specs.Answers.{Outcome, HasOutcome};
+ghost use Rattle.session.specs.OpenFile.{most_types};
 ghost use Rattle.session.specs.Asked.{read_by, read_for, lent_outcome, IsLentInside};
 ghost use Rattle.exportdata_cmd.specs.Showing.{answer_text, answer_texts, decoded_line, shown_status};
 ghost use Rattle.exportdata_cmd.specs.LookedUp.{answer_of, answered, declared_by, IsKnown, IsLookedUp, AreLookedUp};
@@ -51,6 +52,7 @@ pub fn look_up_names(
         AreLookedUp objects.old.file (read_by objects.new) (names_of names.entry) answers.items) }
     ensures only { IfOk result (λ answers. OnlyRead objects.old.file (read_by objects.new) (names_of names.entry)) }
     ensures file { objects.new.file ≡ objects.old.file }
+    ensures room { IsErrOf result LookUpFault.Nodes → objects.old.limit < most_types objects.old.file }
 {
     let mut answers = Vec::new(alloc);
     for k in 0..names.len() {
@@ -79,6 +81,8 @@ fn look_up_name(
         → (read_for (read_by objects.old) number ≡ Some outcome)
         ⊎ HasOutcome objects.old.file (name_of name.now).path (name_of name.now).name number outcome }
     ensures file { objects.new.file ≡ objects.old.file }
+    ensures limit { objects.new.limit ≡ objects.old.limit }
+    ensures room { IsErrOf result LookUpFault.Nodes → objects.old.limit < most_types objects.old.file }
 {
     let Some(number) = objects.look_up(alloc, name.path.as_bytes(), name.name.as_bytes())? else {
         return Ok(LookedUp::Unknown);

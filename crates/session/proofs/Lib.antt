@@ -6,3 +6,4 @@ pub mod Counted
 pub mod Bytes
 pub mod Outcomes
 pub mod ComingDown
+pub mod Room

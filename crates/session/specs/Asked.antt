@@ -11,6 +11,8 @@ use Rattle.type_terms.specs.Arenas.{Contents, AllBelow}
 use Rattle.type_terms.specs.Declarations.{decl_nodes}
 use Rattle.type_terms.specs.Declarations.{decl_of}
 use Rattle.name_index.specs.FullFile.{FullFile}
+use Rattle.decl_spelling.specs.OneFile.{HoldsTypesOf}
+use Rattle.session.specs.OpenFile.{sections_in}
 use Rattle.session.specs.Answers.{Outcome, HasOutcome}
 use Rattle.session.specs.declared.objects.Declaration.{Declaration}
 
@@ -63,6 +65,11 @@ IsRead file nodes x =
 
 abbrev pub AreRead : FullFile → List Node → List Kept → Type 0
 AreRead file nodes kept = AllByRecursion (IsRead file nodes) kept
+
+-- what was read is of the file, and the arena has types of the file alone
+pub record IsOfOneFile (file : FullFile) (arena : Contents) (kept : List Kept) : Type 0 where
+  pub read : AreRead file arena.nodes kept
+  pub types : HoldsTypesOf (sections_in file) arena
 
 -- ---- as it is lent
 

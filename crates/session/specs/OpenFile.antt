@@ -2,6 +2,7 @@
 use Rattle.std.specs.Prelude.{ℕ, List, [], ◌∷◌, map}
 use Rattle.name_index.specs.FullFile.{content, Package, FullFile}
 use Rattle.decl_spelling.specs.Sections.{Sections}
+use Rattle.decl_spelling.specs.OneFile.{type_count}
 
 -- the path of the file's own package, which is the first
 abbrev pub own_path : List Package → List ℕ
@@ -22,3 +23,7 @@ sections_in file = record {
   own = own_path file.packages;
   paths = spelled_paths file.packages;
 }
+
+-- no file has more types: the predeclared ones, and one for each byte of its data section
+abbrev pub most_types : FullFile → ℕ
+most_types file = type_count (sections_in file)

@@ -9,6 +9,8 @@ ghost use Rattle.type_terms.specs.Arenas.{Extends};
 ghost use Rattle.type_terms.specs.declared.shared_nodes.TheConstants.{MAX_NODES};
 ghost use Rattle.type_terms.specs.Declarations.{Decl};
 ghost use Rattle.name_index.specs.Lookup.{IsListed};
+ghost use Rattle.decl_spelling.specs.OneFile.{HoldsTypesOf};
+ghost use Rattle.session.specs.OpenFile.{sections_in, most_types};
 ghost use Rattle.session.specs.Answers.{Outcome, HasOutcome, IsUnknown};
 ghost use Rattle.session.specs.Asked.{read_by, read_for, declared_numbers, outcome_of, IsInside, lent_outcome};
 ghost use Rattle.session.specs.Asked.{IsLentInside};
@@ -26,7 +28,7 @@ use wire_bytes::ByteFault;
 /// Why a name isn't looked up.
 #[derive(Debug, Drop, Clone, Copy, PartialEq, Eq)]
 pub enum LookUpFault {
-    /// The arena has as many nodes as it may have.
+    /// The types that were read are more than the arena may have nodes.
     Nodes,
     /// Memory is wanting.
     OutOfMemory,
@@ -48,13 +50,13 @@ pub struct Objects<'a> {
 }
 
 impl<'a> Model for Objects<'a> {
-    ghost use Rattle.session.specs.Asked.{Asked, asked_of, AreRead};
+    ghost use Rattle.session.specs.Asked.{Asked, asked_of, IsOfOneFile};
 
     ghost Value = { Asked };
 
     ghost view = { λ o. asked_of o.session.image.now o.arena o.read.entries };
 
-    ghost invariant = { λ o. AreRead o.session.image.now o.arena.nodes o.read.entries };
+    ghost invariant = { λ o. IsOfOneFile o.session.image.now o.arena o.read.entries };
 }
 
 impl<'a> Objects<'a> {
@@ -72,7 +74,9 @@ impl<'a> Objects<'a> {
         }
     }
 
-    /// The number of the name in the index, if it is listed. What it is was read then.
+    /// The number of the name in the index, if it is listed. What it is was read then. `Nodes` comes only where the
+    /// limit is below the number of types that the file may have: the predeclared ones, and one for each byte of its
+    /// data section.
     pub fn look_up(
         &mut self,
         alloc: Global,
@@ -89,7 +93,7 @@ impl<'a> Objects<'a> {
             → (read_for (read_by self.old) number ≡ Some outcome) ⊎ (result ≡ Ok (Some number)) }
         ensures file { self.new.file ≡ self.old.file }
         ensures limit { self.new.limit ≡ self.old.limit }
-        ensures full { IsErrOf result LookUpFault.Nodes → length self.new.nodes ≡ self.new.limit }
+        ensures room { IsErrOf result LookUpFault.Nodes → self.old.limit < most_types self.old.file }
     {
         let Some(number) = self.session.image.entry_of(path, name) else {
             return Ok(None);
@@ -137,11 +141,13 @@ fn read_outcome(
     arena: &mut Arena,
 ) -> Result<Result<DeclNode, ByteFault>, LookUpFault>
     requires listed { (path name : _) × (offset : ℕ) × IsListed session.now.image.now.packages number path name offset }
+    requires types { HoldsTypesOf (sections_in session.now.image.now) arena.old }
     ensures outcome { IfOk result (λ outcome. (path name : _)
         × HasOutcome session.now.image.now path name number (outcome_of arena.new.nodes outcome)) }
     ensures inside { IfOk result (IsInside (length arena.new.nodes)) }
     ensures extends { Extends arena.old arena.new }
-    ensures full { IsErrOf result LookUpFault.Nodes → length arena.new.nodes ≡ arena.new.limit }
+    ensures types { HoldsTypesOf (sections_in session.now.image.now) arena.new }
+    ensures room { IsErrOf result LookUpFault.Nodes → arena.old.limit < most_types session.now.image.now }
 {
     read_counted::<Brand>(alloc, session, number, arena, Blank::new(1))
 }
@@ -154,6 +160,7 @@ fn read_counted<L: Ledger>(
     blank: Blank,
 ) -> Result<Result<DeclNode, ByteFault>, LookUpFault>
     requires listed { (path name : _) × (offset : ℕ) × IsListed session.now.image.now.packages number path name offset }
+    requires types { HoldsTypesOf (sections_in session.now.image.now) arena.old }
     requires name { blank.name ≡ L.name }
     requires parts { blank.parts ≡ L.parts }
     requires some { 0 < blank.parts }
@@ -161,7 +168,8 @@ fn read_counted<L: Ledger>(
         × HasOutcome session.now.image.now path name number (outcome_of arena.new.nodes outcome)) }
     ensures inside { IfOk result (IsInside (length arena.new.nodes)) }
     ensures extends { Extends arena.old arena.new }
-    ensures full { IsErrOf result LookUpFault.Nodes → length arena.new.nodes ≡ arena.new.limit }
+    ensures types { HoldsTypesOf (sections_in session.now.image.now) arena.new }
+    ensures room { IsErrOf result LookUpFault.Nodes → arena.old.limit < most_types session.now.image.now }
 {
     let Some((_, _, offset)) = session.image.entry(number) else {
         unreachable!();

@@ -31,6 +31,6 @@ returns g c source =
     ∙ as_many image read names answers looked) (rw same (known image read names answers looked))
     ∙ ap (λ xs. shown_status (answered read names xs)) same in
     let shown =
-    shows image c.requires read names answers looked only c.declared_count.ensures.once c.declared_count.ensures.each c.status_of.result status in
+    shows image c.requires.one read names answers looked only c.declared_count.ensures.once c.declared_count.ensures.each c.status_of.result status in
     c.finish.ensures image (show source names) _ _ _ shown
     (rw (same, c.declared_count.ensures.exact, c.name_count.ensures) at c.put_answers-put.ensures)

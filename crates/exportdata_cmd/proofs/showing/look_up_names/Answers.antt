@@ -21,6 +21,7 @@ loop-k-preserved c =
       rw (add-one c.loop-k.k)
           (reads_on file (read_by c.loop-k.objects) (read_by c.look_up_name.new.objects) (names_of c.args.names) c.loop-k.k (name_of c.in-Some.name) here (rw before.2 at answer.only) before.1),
       answer.file ∙ before.2,
+      answer.limit ∙ before.3,
     )
 
 pub returns-clause-only : goal.returns-clause-only

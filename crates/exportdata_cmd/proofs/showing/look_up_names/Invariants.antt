@@ -10,3 +10,4 @@ invariant-loop-k l =
     AreLookedUp l.fn.objects.file (read_by l.objects) (take l.k (names_of l.names)) l.answers.items
     × OnlyRead l.fn.objects.file (read_by l.objects) (take l.k (names_of l.names))
     × (l.objects.file ≡ l.fn.objects.file)
+    × (l.objects.limit ≡ l.fn.objects.limit)

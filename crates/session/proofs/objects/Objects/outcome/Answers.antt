@@ -16,7 +16,7 @@ returns-in-Ok-clause-exact c =
 pub returns-in-Ok-clause-inside : goal.returns-in-Ok-clause-inside
 returns-in-Ok-clause-inside c =
     let self = c.self.inside in
-    let is = all_found (IsRead self.session.image.now self.arena.nodes) self.read.entries c.args.number c.in_ok-node.field-0.now c.self.invariant (sym c.in_ok-node.ensures.value) in
+    let is = all_found (IsRead self.session.image.now self.arena.nodes) self.read.entries c.args.number c.in_ok-node.field-0.now c.self.invariant.read (sym c.in_ok-node.ensures.value) in
     subst (IsInside _) c.in-Ok.is is.0
 
 pub returns-in-Err-clause-exact : goal.returns-in-Err-clause-exact
