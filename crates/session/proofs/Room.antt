@@ -1,12 +1,12 @@
 -- An arena has types of one file alone, and room for all of them where it may have a node for each.
-use Rattle.std.proofs.Common.{◌≡◌, ℕ, zero, suc, ◌<◌, ◌≤◌, List, [], ◌∷◌, inl, inr, subst, ap, length, drop, ◌+◌, arith, get_or}
+use Rattle.std.proofs.Common.{ℕ, ◌<◌, ◌≤◌, List, inl, inr, subst, ap, length, drop, ◌+◌, arith}
 use Rattle.std.proofs.lemmas.Bool.{cases_lt}
 use Rattle.std.proofs.lemmas.List.{length-take, length-drop}
 use Rattle.file_parts.specs.declared.parts.Parts.{Parts}
 use Rattle.file_parts.specs.FileParts.{IsOfFile}
 use Rattle.type_terms.specs.Arenas.{Contents, Extends}
 use Rattle.type_terms.specs.Additions.{AddsOnly, Outgrows}
-use Rattle.name_index.specs.FullFile.{FullFile, content}
+use Rattle.name_index.specs.FullFile.{FullFile}
 use Rattle.name_index.specs.Envelope.{Envelope}
 use Rattle.name_index.specs.Opening.{ArePartsOf}
 use Rattle.decl_spelling.specs.Sections.{Sections, Basics, HoldsBytes}

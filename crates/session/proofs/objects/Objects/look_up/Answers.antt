@@ -68,7 +68,7 @@ invariant_of-self-else-is_err c =
     let updates = on_ok c.insert.result c.if-is_err.ensures.value c.insert.ensures.updates in
     record {
       read = (now_kept self.session.image.now self.arena c.read_outcome.new.arena self.read.entries c.insert.new.self.entries c.in-Some.number outcome.outcome c.read_outcome.ensures.extends c.self.invariant.read (sym c.if-not-contains_key.ensures) outcome.ensures.inside
-      outcome.ensures.outcome entries updates.0).all;
+          outcome.ensures.outcome entries updates.0).all;
       types = c.read_outcome.ensures.types;
     }
 
