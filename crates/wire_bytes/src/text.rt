@@ -26,7 +26,7 @@ pub fn text_at(strings: &[u8], offset: u64) -> Option<&[u8]>
 }
 
 /// Where in the section the text at an offset stands: behind the spelling of its length, which is at the offset.
-#[tactic(auto, unfolding(crate::specs::Text::text_in))]
+#[tactic(auto, using(crate::proofs::TextLemmas::text_lies, crate::proofs::TextLemmas::text_place))]
 pub fn text_span(strings: &[u8], offset: u64) -> Option<Span>
     ensures order { IfSome result (λ s. s.start ≤ s.end) }
     ensures inside { IfSome result (λ s. s.end ≤ length strings.now) }
