@@ -7,7 +7,7 @@ use Rattle.go_expr_syntax.specs.declared.faults.Fault.{Fault}
 use Rattle.go_expr_syntax.specs.declared.faults.Fault.TheVariants.{Unexpected, Deep, DotImport, Call}
 use Rattle.go_expr_syntax.specs.Reading.{Reply}
 use Rattle.go_expr_syntax.specs.Either.{needed, began_here, or_at, instead_of, after_fault, either}
-use Rattle.go_expr_syntax.proofs.Viable.{ahead, ahead_along, moved, ReadNot, ReadsAt}
+use Rattle.go_expr_syntax.proofs.Viable.{ahead, ahead_along, moved, ReadNotOn, ReadsOn, ReadsAt}
 
 -- of two beginnings of a list, the one that leaves less goes on with the other
 pub goes_further : (a b c d : List Symbol) → a ++ b ≡ c ++ d → length d ≤ length b → (mid : List Symbol) × (c ≡ a ++ mid) × (b ≡ mid ++ d)
@@ -46,24 +46,24 @@ needed_with (Err (Deep k began)) r = omega arith
 needed_with (Err (DotImport k)) r = omega arith
 needed_with (Err (Call k at)) r = omega arith
 
-module _ {X : Type 0} (F : List Symbol → X → List Symbol → Type 0) (p : List Symbol → Reply X) (ts : List Symbol) where
-  abbrev front_of : (reply : Reply X) → ReadsAt F p ts reply → List Symbol
+module _ {X : Type 0} (F W : List Symbol → X → List Symbol → Type 0) (p : List Symbol → Reply X) (ts : List Symbol) where
+  abbrev front_of : (reply : Reply X) → ReadsOn F W p ts reply → List Symbol
   front_of (Ok z) h = h.front
   front_of (Err f) h = h.front
 
-  abbrev rest_of : (reply : Reply X) → ReadsAt F p ts reply → List Symbol
+  abbrev rest_of : (reply : Reply X) → ReadsOn F W p ts reply → List Symbol
   rest_of (Ok z) h = z.1
   rest_of (Err f) h = h.rest
 
-  split_of : (reply : Reply X) (h : ReadsAt F p ts reply) → ts ≡ front_of reply h ++ rest_of reply h
+  split_of : (reply : Reply X) (h : ReadsOn F W p ts reply) → ts ≡ front_of reply h ++ rest_of reply h
   split_of (Ok z) h = h.split
   split_of (Err f) h = h.split
 
-  stays_of : (reply : Reply X) (h : ReadsAt F p ts reply) (r : List Symbol) → ahead (rest_of reply h) ≡ ahead r → p (front_of reply h ++ r) ≡ with_rest reply r
+  stays_of : (reply : Reply X) (h : ReadsOn F W p ts reply) (r : List Symbol) → ahead (rest_of reply h) ≡ ahead r → p (front_of reply h ++ r) ≡ with_rest reply r
   stays_of (Ok z) h r e = h.stays r e
   stays_of (Err f) h r e = h.stays r e
 
-  needed_of : (reply : Reply X) (h : ReadsAt F p ts reply) → needed reply ≡ extra reply + length (rest_of reply h)
+  needed_of : (reply : Reply X) (h : ReadsOn F W p ts reply) → needed reply ≡ extra reply + length (rest_of reply h)
   needed_of (Ok z) h = omega arith
   needed_of (Err (Unexpected k)) h = let place : Unexpected k ≡ Unexpected (length h.rest) = h.place in let e : k ≡ length h.rest = cc in omega (arith, e)
   needed_of (Err (Deep k began)) h = let place : Deep k began ≡ Deep (length h.rest) began = h.place in let e : k ≡ length h.rest = cc in omega (arith, e)
@@ -71,9 +71,9 @@ module _ {X : Type 0} (F : List Symbol → X → List Symbol → Type 0) (p : Li
   needed_of (Err (Call k at)) h = let place : Call k at ≡ Call (length h.rest) at = h.place in let e : k ≡ length h.rest = cc in omega (arith, e)
 
   -- another reader that answers so, whatever follows
-  same_reads : (other : List Symbol → Reply X) (reply : Reply X) (h : ReadsAt F p ts reply) → ((r : List Symbol) → ahead (rest_of reply h) ≡ ahead r → other (front_of reply h ++ r) ≡ with_rest reply r) → ReadsAt F other ts reply
+  same_reads : (other : List Symbol → Reply X) (reply : Reply X) (h : ReadsOn F W p ts reply) → ((r : List Symbol) → ahead (rest_of reply h) ≡ ahead r → other (front_of reply h ++ r) ≡ with_rest reply r) → ReadsOn F W other ts reply
   same_reads other (Ok z) h same = record { front = h.front; split = h.split; stands = h.stands; stays = same }
-  same_reads other (Err f) h same = record { front = h.front; rest = h.rest; split = h.split; place = h.place; stays = same; more = h.more; made = h.made; completes = h.completes }
+  same_reads other (Err f) h same = record { front = h.front; rest = h.rest; split = h.split; place = h.place; stays = same; more = h.more; made = h.made; completes = h.completes; met = h.met }
 
 abbrev pub either_then : {X : Type 0} → (List Symbol → Reply X) → (List Symbol → Reply X) → List Symbol → Reply X
 either_then p q ts = either (p ts) (q ts)
@@ -82,7 +82,7 @@ either_then p q ts = either (p ts) (q ts)
 abbrev Yields : (X : Type 0) → Fault → Type 0
 Yields X f = (n : ℕ) (second : Reply X) → after_fault (moved f n) second ≡ instead_of (moved f n) n second
 
-module _ {X : Type 0} (F : List Symbol → X → List Symbol → Type 0) (p q : List Symbol → Reply X) (ts : List Symbol) (f : Fault) (h : ReadNot F p ts f) (yields : Yields X f) where
+module _ {X : Type 0} (F W : List Symbol → X → List Symbol → Type 0) (p q : List Symbol → Reply X) (ts : List Symbol) (f : Fault) (h : ReadNotOn F W p ts f) (yields : Yields X f) where
   -- what both answer, where both are known
   answer_is : (us : List Symbol) (n : ℕ) (second : Reply X) → p us ≡ Err (moved f n) → q us ≡ second → either_then p q us ≡ instead_of (moved f n) n second
   answer_is us n second a b = rw (a, b) (yields n second)
@@ -102,40 +102,40 @@ module _ {X : Type 0} (F : List Symbol → X → List Symbol → Type 0) (p q : 
           below true e = let le : a ≤ b = leb-true a b e in absurd (omega (arith, le, l))
           below false e = refl
 
-  second_reads : (reply : Reply X) (k : ReadsAt F q ts reply) → needed reply ≤ length h.rest → ReadsAt F (either_then p q) ts reply
+  second_reads : (reply : Reply X) (k : ReadsOn F W q ts reply) → needed reply ≤ length h.rest → ReadsOn F W (either_then p q) ts reply
   second_reads reply k le =
-      let n = needed_of F q ts reply k in
-      let o = goes_further h.front h.rest (front_of F q ts reply k) (rest_of F q ts reply k) (sym h.split ∙ split_of F q ts reply k) (omega (arith, n, le)) in
-      let long : length h.rest ≡ length o.0 + length (rest_of F q ts reply k) = ap length o.2 ∙ length-append {A = Symbol} o.0 (rest_of F q ts reply k) in
-      same_reads F q ts (either_then p q) reply k (λ r e.
+      let n = needed_of F W q ts reply k in
+      let o = goes_further h.front h.rest (front_of F W q ts reply k) (rest_of F W q ts reply k) (sym h.split ∙ split_of F W q ts reply k) (omega (arith, n, le)) in
+      let long : length h.rest ≡ length o.0 + length (rest_of F W q ts reply k) = ap length o.2 ∙ length-append {A = Symbol} o.0 (rest_of F W q ts reply k) in
+      same_reads F W q ts (either_then p q) reply k (λ r e.
       let far : length (o.0 ++ r) ≡ length o.0 + length r = length-append {A = Symbol} o.0 r in
       let m = needed_with reply r in
-      answer_is (front_of F q ts reply k ++ r) (length (o.0 ++ r)) (with_rest reply r)
+      answer_is (front_of F W q ts reply k ++ r) (length (o.0 ++ r)) (with_rest reply r)
       (subst (λ (us : List Symbol). p (us ++ r) ≡ Err (moved f (length (o.0 ++ r)))) (sym o.1)
-      (ap p (append_assoc h.front o.0 r) ∙ h.stays (o.0 ++ r) (ap ahead o.2 ∙ ahead_along o.0 (rest_of F q ts reply k) r e)))
-      (stays_of F q ts reply k r e)
+      (ap p (append_assoc h.front o.0 r) ∙ h.stays (o.0 ++ r) (ap ahead o.2 ∙ ahead_along o.0 (rest_of F W q ts reply k) r e)))
+      (stays_of F W q ts reply k r e)
       ∙ taken (length (o.0 ++ r)) (with_rest reply r) (omega (arith, far, m, n, le, long)))
 
-  first_reads : (reply : Reply X) (k : ReadsAt F q ts reply) → length h.rest < needed reply → ReadsAt F (either_then p q) ts (Err f)
+  first_reads : (reply : Reply X) (k : ReadsOn F W q ts reply) → length h.rest < needed reply → ReadsOn F W (either_then p q) ts (Err f)
   first_reads reply k lt =
-      let n = needed_of F q ts reply k in
+      let n = needed_of F W q ts reply k in
       let small = extra_small reply in
-      let o = goes_further (front_of F q ts reply k) (rest_of F q ts reply k) h.front h.rest (sym (split_of F q ts reply k) ∙ h.split) (omega (arith, n, lt, small)) in
-      let long : length (rest_of F q ts reply k) ≡ length o.0 + length h.rest = ap length o.2 ∙ length-append {A = Symbol} o.0 h.rest in
-      same_reads F p ts (either_then p q) (Err f) h (λ r e.
+      let o = goes_further (front_of F W q ts reply k) (rest_of F W q ts reply k) h.front h.rest (sym (split_of F W q ts reply k) ∙ h.split) (omega (arith, n, lt, small)) in
+      let long : length (rest_of F W q ts reply k) ≡ length o.0 + length h.rest = ap length o.2 ∙ length-append {A = Symbol} o.0 h.rest in
+      same_reads F W p ts (either_then p q) (Err f) h (λ r e.
       let far : length (o.0 ++ r) ≡ length o.0 + length r = length-append {A = Symbol} o.0 r in
       let m = needed_with reply (o.0 ++ r) in
       answer_is (h.front ++ r) (length r) (with_rest reply (o.0 ++ r)) (h.stays r e)
       (subst (λ (us : List Symbol). q (us ++ r) ≡ with_rest reply (o.0 ++ r)) (sym o.1)
-      (ap q (append_assoc (front_of F q ts reply k) o.0 r) ∙ stays_of F q ts reply k (o.0 ++ r) (ap ahead o.2 ∙ ahead_along o.0 h.rest r e)))
+      (ap q (append_assoc (front_of F W q ts reply k) o.0 r) ∙ stays_of F W q ts reply k (o.0 ++ r) (ap ahead o.2 ∙ ahead_along o.0 h.rest r e)))
       ∙ kept (length r) (with_rest reply (o.0 ++ r)) (omega (arith, far, m, n, lt, long)))
 
-  chosen : (reply : Reply X) → ReadsAt F q ts reply → (b : Bool) → nat_le (needed reply) (length h.rest) ≡ b → ReadsAt F (either_then p q) ts (if b then reply else Err f)
+  chosen : (reply : Reply X) → ReadsOn F W q ts reply → (b : Bool) → nat_le (needed reply) (length h.rest) ≡ b → ReadsOn F W (either_then p q) ts (if b then reply else Err f)
   chosen reply k true e = second_reads reply k (leb-true (needed reply) (length h.rest) e)
   chosen reply k false e = first_reads reply k (leb-false (needed reply) (length h.rest) e)
 
   -- where the fault is told by its place
-  fault_reads : (reply : Reply X) → ReadsAt F q ts reply → (n : ℕ) → n ≡ length h.rest → ReadsAt F (either_then p q) ts (instead_of f n reply)
+  fault_reads : (reply : Reply X) → ReadsOn F W q ts reply → (n : ℕ) → n ≡ length h.rest → ReadsOn F W (either_then p q) ts (instead_of f n reply)
   fault_reads reply k n e = rw e (chosen reply k (nat_le (needed reply) (length h.rest)) refl)
 
 -- ---- a path that is too long in the first reading
@@ -150,9 +150,9 @@ same_length a b c d e l =
     ends [] f g z = (f ∙ append-nil a, sym g)
     ends (k ∷ mid) f g z = absurd (omega (arith, z))
 
-module _ {X : Type 0} (F : List Symbol → X → List Symbol → Type 0) (q : List Symbol → Reply X) (all : (us : List Symbol) → ReadsAt F q us (q us)) (front : List Symbol) where
+module _ {X : Type 0} (F W : List Symbol → X → List Symbol → Type 0) (q : List Symbol → Reply X) (front : List Symbol) where
   -- where a path is too long with the next token, it is so whatever follows
-  stays_deep : (a b : List Symbol) (at : ℕ) (f : Fault) → f ≡ Deep (length a) at → ReadNot F q (front ++ a) f → ahead a ≡ ahead b → q (front ++ b) ≡ Err (Deep (length b) at)
+  stays_deep : (a b : List Symbol) (at : ℕ) (f : Fault) → f ≡ Deep (length a) at → ReadNotOn F W q (front ++ a) f → ahead a ≡ ahead b → q (front ++ b) ≡ Err (Deep (length b) at)
   stays_deep a b at (Deep k began) is h e =
       let place : Deep k began ≡ Deep (length h.rest) began = h.place in
       let left : k ≡ length h.rest = cc in
@@ -181,7 +181,7 @@ module _ {X : Type 0} (F : List Symbol → X → List Symbol → Type 0) (q : Li
   so : (n at : ℕ) (reply : Reply X) → reply ≡ Err (Deep n at) → began_here n reply ≡ Some at
   so n at reply e = rw (e, eq-eqb n n refl) refl
 
-  over_to : (a b : List Symbol) (at : ℕ) (reply : Reply X) → q (front ++ a) ≡ reply → ReadsAt F q (front ++ a) reply → ahead a ≡ ahead b → began_here (length a) reply ≡ Some at → began_here (length b) (q (front ++ b)) ≡ Some at
+  over_to : (a b : List Symbol) (at : ℕ) (reply : Reply X) → q (front ++ a) ≡ reply → ReadsOn F W q (front ++ a) reply → ahead a ≡ ahead b → began_here (length a) reply ≡ Some at → began_here (length b) (q (front ++ b)) ≡ Some at
   over_to a b at (Ok z) same h e is = absurd cc
   over_to a b at (Err f) same h e is =
       let one : Err f ≡ Err (Deep (length a) at) = too (length a) (Err f) at is in
@@ -193,14 +193,14 @@ module _ {X : Type 0} (F : List Symbol → X → List Symbol → Type 0) (q : Li
   agree a b (Some n) y f g = sym (f n refl)
   agree a b None (Some n) f g = g n refl
 
-  same_began : (a b : List Symbol) → ahead a ≡ ahead b → began_here (length a) (q (front ++ a)) ≡ began_here (length b) (q (front ++ b))
-  same_began a b e =
+  same_began : (a b : List Symbol) → ahead a ≡ ahead b → ReadsOn F W q (front ++ a) (q (front ++ a)) → ReadsOn F W q (front ++ b) (q (front ++ b)) → began_here (length a) (q (front ++ a)) ≡ began_here (length b) (q (front ++ b))
+  same_began a b e h g =
       agree a b (began_here (length a) (q (front ++ a))) (began_here (length b) (q (front ++ b)))
-      (λ at is. over_to a b at (q (front ++ a)) refl (all (front ++ a)) e is)
-      (λ at is. over_to b a at (q (front ++ b)) refl (all (front ++ b)) (sym e) is)
+      (λ at is. over_to a b at (q (front ++ a)) refl h e is)
+      (λ at is. over_to b a at (q (front ++ b)) refl g (sym e) is)
 
-module _ {X : Type 0} (F : List Symbol → X → List Symbol → Type 0) (p q : List Symbol → Reply X) (ts : List Symbol) where
-  deep_read : (j began : ℕ) (second : Reply X) → ReadNot F p ts (Deep j began) → q ts ≡ second → ((us : List Symbol) → ReadsAt F q us (q us)) → ReadsAt F (either_then p q) ts (Err (Deep j (or_at began (began_here j second))))
+module _ {X : Type 0} (F W : List Symbol → X → List Symbol → Type 0) (p q : List Symbol → Reply X) (ts : List Symbol) where
+  deep_read : (j began : ℕ) (second : Reply X) → ReadNotOn F W p ts (Deep j began) → q ts ≡ second → ((us : List Symbol) → ahead ts ≡ ahead us → ReadsOn F W q us (q us)) → ReadsOn F W (either_then p q) ts (Err (Deep j (or_at began (began_here j second))))
   deep_read j began second h same all =
       let place : Deep j began ≡ Deep (length h.rest) began = h.place in
       let left : j ≡ length h.rest = cc in
@@ -213,18 +213,22 @@ module _ {X : Type 0} (F : List Symbol → X → List Symbol → Type 0) (p q : 
         stays = λ r e.
             ap (λ (m : Reply X). either m (q (h.front ++ r))) (h.stays r e)
             ∙ ap (λ (o : Option ℕ). Err (Deep (length r) (or_at began o)))
-            (sym (same_began F q all h.front h.rest r e) ∙ ap (λ (us : List Symbol). began_here (length h.rest) (q us)) (sym h.split) ∙ ap (λ (n : ℕ). began_here n (q ts)) (sym left) ∙ ap (began_here j) same);
+            (sym (same_began F W q h.front h.rest r e (all (h.front ++ h.rest) (ap ahead h.split)) (all (h.front ++ r) (ap ahead h.split ∙ ahead_along h.front h.rest r e))) ∙ ap (λ (us : List Symbol). began_here (length h.rest) (q us)) (sym h.split) ∙ ap (λ (n : ℕ). began_here n (q ts)) (sym left) ∙ ap (began_here j) same);
         more = h.more;
         made = h.made;
         completes = h.completes;
+        met = h.met;
       }
 
-  either_read : (first second : Reply X) → ReadsAt F p ts first → ReadsAt F q ts second → q ts ≡ second → ((us : List Symbol) → ReadsAt F q us (q us)) → ReadsAt F (either_then p q) ts (either first second)
-  either_read (Ok z) second h k same all = same_reads F p ts (either_then p q) (Ok z) h (λ r e. ap (λ (m : Reply X). either m (q (h.front ++ r))) (h.stays r e))
+  either_read : (first second : Reply X) → ReadsOn F W p ts first → ReadsOn F W q ts second → q ts ≡ second → ((us : List Symbol) → ahead ts ≡ ahead us → ReadsOn F W q us (q us)) → ReadsOn F W (either_then p q) ts (either first second)
+  either_read (Ok z) second h k same all = same_reads F W p ts (either_then p q) (Ok z) h (λ r e. ap (λ (m : Reply X). either m (q (h.front ++ r))) (h.stays r e))
   either_read (Err (Deep j began)) second h k same all = deep_read j began second h same all
-  either_read (Err (Unexpected j)) second h k same all = let place : Unexpected j ≡ Unexpected (length h.rest) = h.place in let e : j ≡ length h.rest = cc in fault_reads F p q ts (Unexpected j) h (λ n s. refl) second k j e
-  either_read (Err (DotImport j)) second h k same all = let place : DotImport j ≡ DotImport (length h.rest) = h.place in let e : j ≡ length h.rest = cc in fault_reads F p q ts (DotImport j) h (λ n s. refl) second k j e
-  either_read (Err (Call j at)) second h k same all = let place : Call j at ≡ Call (length h.rest) at = h.place in let e : j ≡ length h.rest = cc in fault_reads F p q ts (Call j at) h (λ n s. refl) second k j e
+  either_read (Err (Unexpected j)) second h k same all = let place : Unexpected j ≡ Unexpected (length h.rest) = h.place in let e : j ≡ length h.rest = cc in fault_reads F W p q ts (Unexpected j) h (λ n s. refl) second k j e
+  either_read (Err (DotImport j)) second h k same all = let place : DotImport j ≡ DotImport (length h.rest) = h.place in let e : j ≡ length h.rest = cc in fault_reads F W p q ts (DotImport j) h (λ n s. refl) second k j e
+  either_read (Err (Call j at)) second h k same all = let place : Call j at ≡ Call (length h.rest) at = h.place in let e : j ≡ length h.rest = cc in fault_reads F W p q ts (Call j at) h (λ n s. refl) second k j e
 
-  pub either_reads : ReadsAt F p ts (p ts) → ((us : List Symbol) → ReadsAt F q us (q us)) → ReadsAt F (either_then p q) ts (either_then p q ts)
-  either_reads h all = either_read (p ts) (q ts) h (all ts) refl all
+  pub either_on : ReadsOn F W p ts (p ts) → ((us : List Symbol) → ahead ts ≡ ahead us → ReadsOn F W q us (q us)) → ReadsOn F W (either_then p q) ts (either_then p q ts)
+  either_on h all = either_read (p ts) (q ts) h (all ts refl) refl all
+
+pub either_reads : {X : Type 0} (F : List Symbol → X → List Symbol → Type 0) (p q : List Symbol → Reply X) (ts : List Symbol) → ReadsAt F p ts (p ts) → ((us : List Symbol) → ReadsAt F q us (q us)) → ReadsAt F (either_then p q) ts (either_then p q ts)
+either_reads F p q ts h all = either_on F F p q ts h (λ us e. all us)

@@ -3,14 +3,17 @@ use Rattle.std.proofs.Common.{◌≡◌, ℕ, zero, suc, ◌<◌, ◌==◌, min,
 use Rattle.std.proofs.lemmas.Bool.{eqb-true}
 use Rattle.go_expr_syntax.specs.declared.symbols.Operator.{Operator}
 use Rattle.go_expr_syntax.specs.declared.symbols.Symbol.{Symbol}
+use Rattle.go_expr_syntax.specs.declared.symbols.Symbol.TheVariants as t
 use Rattle.go_expr_syntax.specs.declared.expressions.Operand.{Operand}
 use Rattle.go_expr_syntax.specs.Reading.{Reply, ◌>>=◌, symbol_start, start_of, unexpected, too_deep}
 use Rattle.go_expr_syntax.specs.Expressions as ex
-use Rattle.go_expr_syntax.specs.Expressions.{level, between_of, binary, IsExpr}
+use Rattle.go_expr_syntax.specs.Expressions.{level, between_of, literal, constant, enclosed, unary, binary, IsExpr}
+use Rattle.go_expr_syntax.specs.Names.{plain, own}
+use Rattle.go_expr_syntax.proofs.NameReads.{any_ident}
 use Rattle.go_expr_syntax.specs.Operands.{Sized, Reader, operator_if, operator_at, pick, climb_on, climb_by, climb_of, climb, level_by, begins_expr, expr_of}
 use Rattle.go_expr_syntax.proofs.Viable.{next_is, ends_so, ReadsAt, Sample, Behind, After, done_reads, deep_next, as_reads, cons_reads, peek_reads, stuck_reads, deep_reads, bind_reads}
 use Rattle.go_expr_syntax.proofs.Rows.{bind_same}
-use Rattle.go_expr_syntax.proofs.OperandReads.{ExprAt, some_expr, operand_reads}
+use Rattle.go_expr_syntax.proofs.OperandReads.{ExprAt, alone_up, some_expr, operand_reads}
 
 -- ---- the number of turns never shows
 
@@ -65,13 +68,17 @@ option_so F l p q other k ts same None e found otherwise = otherwise (λ r. same
 abbrev Grown : ℕ → Sized → List Symbol → Sized → List Symbol → Type 0
 Grown l x = After (ExprAt (suc l)) (ExprAt (suc l)) x
 
-grows : (l : ℕ) (x : Sized) → Sample (Grown l x)
-grows l x = record { tokens = []; made = x; stands = λ tail ts w. w }
-
 on_reads : (l : ℕ) (inner : Reader) → ((us : List Symbol) → ReadsAt (ExprAt l) inner us (inner us)) → (more : Sized → List Symbol → Reply Sized) (p : List Symbol → Reply Sized) (x : Operand) (spare : ℕ) (k : Symbol) (ts : List Symbol) (op : Operator)
     → IsBetween (suc l) k op → ((r : List Symbol) → p (k ∷ r) ≡ climb_on spare more inner x (k ∷ r) op r)
     → ((z : Sized) (us : List Symbol) → z.1 < spare → ReadsAt (Grown l z) (more z) us (more z us)) → ReadsAt (Grown l (x, spare)) p (k ∷ ts) (climb_on spare more inner x (k ∷ ts) op ts)
-on_reads l inner h more p x zero k ts op is same later = deep_next (Grown l (x, 0)) p k ts (grows l (x, 0)) same
+on_reads l inner h more p x zero k ts op is same later =
+    deep_next (Grown l (x, 0)) p k ts
+    (record {
+      tokens = t.Ident any_ident ∷ [];
+      made = (binary op (symbol_start k) x (constant (plain any_ident)), 0);
+      stands = λ tail vs v. (suc (max v.0 1), ex.joined l v.0 1 vs x k op (t.Ident any_ident ∷ tail) (constant (plain any_ident)) tail v.1 is.is is.of_level (alone_up l tail));
+    })
+    same
 on_reads l inner h more p x (suc spare) k ts op is same later =
     cons_reads (Grown l (x, suc spare)) p (λ us. inner us >>= λ y. more (binary op (symbol_start k) x y.0.0, min spare y.0.1) y.1) k ts (inner ts >>= λ y. more (binary op (symbol_start k) x y.0.0, min spare y.0.1) y.1) same
     (bind_reads (ExprAt l) (Behind k (Grown l (x, suc spare))) inner (λ y us. more (binary op (symbol_start k) x y.0, min spare y.1) us) ts
@@ -107,7 +114,28 @@ level_reads n inner h (suc l) ts =
     (climb_up l (inner l) (h l) (suc x.1) x us (omega arith)))
     (level_by n inner l ts) (level_reads n inner h l ts)
 
+up_to : (l m : ℕ) (ts : List Symbol) (x : Operand) (rest : List Symbol) → IsExpr 0 m ts x rest → IsExpr l m ts x rest
+up_to zero m ts x rest w = w
+up_to (suc l) m ts x rest w = ex.alone l m ts x rest (up_to l m ts x rest w)
+
+-- behind a token with which an expression begins
+begun_by : (l : ℕ) (k : Symbol) → begins_expr k ≡ true → Sample (Behind k (ExprAt l))
+begun_by l (t.Literal token) e = record { tokens = []; made = (literal token, 0); stands = λ tail. (1, up_to l 1 (t.Literal token ∷ tail) (literal token) tail (ex.a_literal token tail)) }
+begun_by l (t.Text s) e = record { tokens = []; made = (literal s.0, 0); stands = λ tail. (1, up_to l 1 (t.Text s ∷ tail) (literal s.0) tail (ex.a_text s tail)) }
+begun_by l (t.Ident i) e = record { tokens = []; made = (constant (plain i), 0); stands = λ tail. (1, up_to l 1 (t.Ident i ∷ tail) (constant (plain i)) tail (ex.a_name (t.Ident i ∷ tail) (plain i) tail (own i tail))) }
+begun_by l (t.OpenParen at) e = record {
+  tokens = t.Ident any_ident ∷ t.CloseParen 0 ∷ [];
+  made = (enclosed at (constant (plain any_ident)), 0);
+  stands = λ tail. (2, up_to l 2 (t.OpenParen at ∷ t.Ident any_ident ∷ t.CloseParen 0 ∷ tail) (enclosed at (constant (plain any_ident))) tail (ex.in_parens 1 at (t.Ident any_ident ∷ t.CloseParen 0 ∷ tail) (constant (plain any_ident)) 0 tail (alone_up 5 (t.CloseParen 0 ∷ tail))));
+}
+begun_by l (t.Operator op at) e = record {
+  tokens = t.Ident any_ident ∷ [];
+  made = (unary op at (constant (plain any_ident)), 0);
+  stands = λ tail. (2, up_to l 2 (t.Operator op at ∷ t.Ident any_ident ∷ tail) (unary op at (constant (plain any_ident))) tail (ex.after_sign 1 op at (t.Ident any_ident ∷ tail) (constant (plain any_ident)) tail e (alone_up 0 tail)));
+}
+begun_by l _ e = absurd cc
+
 pub expr_reads : (n l : ℕ) (ts : List Symbol) → ReadsAt (ExprAt l) (expr_of n l) ts (expr_of n l ts)
 unfolding expr_of
-expr_reads zero l ts = peek_reads (ExprAt l) begins_expr too_deep unexpected ts (λ s. deep_reads (ExprAt l) ts (some_expr l)) (λ s. stuck_reads (ExprAt l) ts (some_expr l))
+expr_reads zero l ts = peek_reads (ExprAt l) begins_expr too_deep unexpected ts (λ s. deep_reads (ExprAt l) begins_expr ts (some_expr l) (begun_by l) s) (λ s. stuck_reads (ExprAt l) ts (some_expr l))
 expr_reads (suc n) l ts = level_reads n (expr_of n) (expr_reads n) l ts

@@ -1,10 +1,10 @@
 -- What the readers of names and tags do.
-use Rattle.std.proofs.Common.{◌≡◌, List, [], ◌∷◌, Ok, Err, refl}
+use Rattle.std.proofs.Common.{◌≡◌, ℕ, List, [], ◌∷◌, Ok, Err, refl}
 use Rattle.go_expr_syntax.specs.declared.symbols.Symbol.{Symbol}
 use Rattle.go_expr_syntax.specs.declared.symbols.Symbol.TheVariants as t
 use Rattle.go_expr_syntax.specs.declared.symbols.Ident.{Ident}
 use Rattle.go_expr_syntax.specs.declared.tree.NameExpr.{NameExpr}
-use Rattle.go_expr_syntax.specs.Reading.{Reply, ◌>>=◌, is_dot}
+use Rattle.go_expr_syntax.specs.Reading.{Quoted, Reply, ◌>>=◌, is_dot}
 use Rattle.string_literals.specs.Values.{value_of}
 use Rattle.go_expr_syntax.specs.Names.{plain, selected, IsTypeName, own, of_package, IsNames, one, more, IsTag, none, some, ident_at, tag_at, selected_by, dotted, names_more, names_end, names_at}
 use Rattle.go_expr_syntax.proofs.Viable.{ReadsAt, Sample, Behind, Past, done_reads, refuse_next, refuse_end, next_is, ends_so, cons_reads, choose_reads, value_reads}
@@ -12,6 +12,10 @@ use Rattle.go_expr_syntax.proofs.Marks.{dot}
 
 abbrev pub IsIdent : List Symbol → Ident → List Symbol → Type 0
 IsIdent ts i rest = ts ≡ t.Ident i ∷ rest
+
+-- the value of a literal
+abbrev pub tag_of : Quoted → List ℕ
+tag_of s = value_of s.1
 
 abbrev pub any_ident : Ident
 any_ident = record { start = 0; end = 0 }

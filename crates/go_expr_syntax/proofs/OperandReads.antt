@@ -39,14 +39,14 @@ no_expr_here l z us w = no_expr_of l w.0 us z.0 w.1
 -- ---- calls
 
 called_reads : {X : Type 0} (F : List Symbol → X → List Symbol → Type 0) (at : ℕ) (ts : List Symbol) → Sample F → ReadsAt F (called at) ts (called at ts)
-called_reads F at ts s = refuse_reads F (called at) ts (Call (length ts) at) s refl (λ r e. refl)
+called_reads F at ts s = refuse_reads F (called at) ts (Call (length ts) at) s refl (λ r e. refl) tt
 
 -- a whole operand
 uncalled_reads : (F : List Symbol → Sized → List Symbol → Type 0) (z : Sized) (ts : List Symbol) → ((tail : List Symbol) → F tail z tail) → ReadsAt F (uncalled z) ts (uncalled z ts)
 uncalled_reads F z [] h = done_reads F (uncalled z) [] z h (ends_so (λ r. uncalled z r ≡ Ok (z, r)) refl)
 uncalled_reads F z (t.OpenParen at ∷ ts) h =
     refuse_reads F (uncalled z) (t.OpenParen at ∷ ts) (Call (length (t.OpenParen at ∷ ts)) at) (record { tokens = []; made = z; stands = h }) refl
-    (next_is (λ r. uncalled z r ≡ called at r) (t.OpenParen at) (λ r. refl))
+    (next_is (λ r. uncalled z r ≡ called at r) (t.OpenParen at) (λ r. refl)) tt
 uncalled_reads F z (k ∷ ts) h = done_reads F (uncalled z) (k ∷ ts) z h (next_is (λ r. uncalled z r ≡ Ok (z, r)) k (λ r. refl))
 
 -- ---- conversions

@@ -3,7 +3,7 @@ use Rattle.std.proofs.Common.{◌≡◌, ℕ, ◌<◌, Bool, true, false, if◌t
 use Rattle.go_expr_syntax.specs.declared.symbols.Symbol.{Symbol}
 use Rattle.go_expr_syntax.specs.declared.faults.Fault.{Fault}
 use Rattle.go_expr_syntax.specs.Reading.{Reply, ◌>>=◌, unexpected, past, choose, ListForm, series_more, series_close, series_next, series_end, series_item, series_by, series, rows, row, chain_more, chain_end, chain_by, chain}
-use Rattle.go_expr_syntax.proofs.Viable.{ReadsAt, Sample, Kind, Past, After, eats, done_reads, choose_reads, choose_reads_on, past_reads, bind_reads, value_reads}
+use Rattle.go_expr_syntax.proofs.Viable.{ReadsOn, ReadsAt, bind_on, ended_on, Sample, Kind, Past, After, eats, done_reads, choose_reads, choose_reads_on, past_reads, bind_reads, value_reads}
 use Rattle.go_expr_syntax.proofs.Steps.{Local, steps_is, steps_read}
 
 pub bind_same : {A B : Type 0} (r : Result A Fault) (f g : A → Result B Fault) → ((a : A) → r ≡ Ok a → f a ≡ g a) → (r >>= f) ≡ (r >>= g)
@@ -33,6 +33,9 @@ Eats {X} one = (ts : List Symbol) (z : X × List Symbol) → one ts ≡ Ok z →
 
 pub eats_of : {X : Type 0} (F : List Symbol → X → List Symbol → Type 0) (one : List Symbol → Reply X) → ((x : X) (us : List Symbol) → F [] x us → ⊥) → ((ts : List Symbol) → ReadsAt F one ts (one ts)) → Eats one
 eats_of F one never h ts z e = eats F one ts z.0 z.1 (λ us w. never z.0 us w) (subst (ReadsAt F one ts) e (h ts))
+
+pub eats_on : {X : Type 0} (F W : List Symbol → X → List Symbol → Type 0) (one : List Symbol → Reply X) → ((x : X) (us : List Symbol) → F [] x us → ⊥) → ((ts : List Symbol) → ReadsOn F W one ts (one ts)) → Eats one
+eats_on F W one never h ts z e = eats F one ts z.0 z.1 (λ us w. never z.0 us w) (subst (ReadsOn F W one ts) e (h ts))
 
 -- ---- series
 
@@ -88,18 +91,26 @@ module _ {X Y : Type 0} (S : ListForm X Y) (F : List Symbol → X → List Symbo
       (λ e. past_reads S.sep (After F Q x) R.between (series_next S more x) us (after_sep x (S.final x) refl)
       (λ k vs same. next_reads more x vs (S.final x) refl (h vs (rw same (omega arith)))))
 
-  by_reads : (one : List Symbol → Reply X) (more : List Symbol → Reply Y) (ts : List Symbol) → ((x : X) (us : List Symbol) → F [] x us → ⊥) → ((us : List Symbol) → ReadsAt F one us (one us))
+  -- an item with which the series ends, and the token that closes it
+  abbrev pub Final : List Symbol → X → List Symbol → Type 0
+  Final us x rest = Q us (S.cons x S.nil) rest
+
+  by_on : (one : List Symbol → Reply X) (more : List Symbol → Reply Y) (ts : List Symbol) → ((x : X) (us : List Symbol) → F [] x us → ⊥) → ((us : List Symbol) → ReadsOn F Final one us (one us))
       → ((vs : List Symbol) → length vs < length ts → ReadsAt Q more vs (more vs)) → ReadsAt Q (series_by S one more) ts (series_by S one more ts)
-  by_reads one more ts never item h =
+  by_on one more ts never item h =
       choose_reads S.closes Q R.ending (λ rest. Ok (S.nil, rest)) (series_item S one more) ts
       (λ vs. done_reads (Past R.ending Q) (λ rest. Ok (S.nil, rest)) vs S.nil (λ tail c. R.none c tail) (λ r e. refl))
-      (λ e. bind_reads F Q one (series_end S more) ts
+      (λ e. bind_on F Final Q one (series_end S more) ts
       (λ x. record { tokens = R.ending.make 0 ∷ []; made = S.cons x S.nil; stands = λ tail us w. R.last 0 us x tail w })
+      (λ x. S.cons x S.nil) (λ us x rest w. w)
       (λ x us o. end_reads more x us (λ vs less. let fewer : length us < length ts = eats F one ts x us (λ vs w. never x vs w) o in h vs (omega arith)))
       (one ts) (item ts))
 
+  pub series_on : (one : List Symbol → Reply X) → ((x : X) (us : List Symbol) → F [] x us → ⊥) → ((us : List Symbol) → ReadsOn F Final one us (one us)) → (ts : List Symbol) → ReadsAt Q (series S one) ts (series S one ts)
+  series_on one never item ts = steps_read Q (series_by S one) (series_local S one (eats_on F Final one never item)) (λ more us h. by_on one more us never item h) ts
+
   pub series_reads : (one : List Symbol → Reply X) → ((x : X) (us : List Symbol) → F [] x us → ⊥) → ((us : List Symbol) → ReadsAt F one us (one us)) → (ts : List Symbol) → ReadsAt Q (series S one) ts (series S one ts)
-  series_reads one never item ts = steps_read Q (series_by S one) (series_local S one (eats_of F one never item)) (λ more us h. by_reads one more us never item h) ts
+  series_reads one never item ts = series_on one never (λ us. ended_on F Final (R.ending.make 0 ∷ []) one us (one us) (λ vs x r w. R.last 0 vs x r w) (item us)) ts
 
 pub row_reads : {X : Type 0} (closes : Symbol → Bool) (F : List Symbol → X → List Symbol → Type 0) (Q : List Symbol → List X → List Symbol → Type 0) → IsSeries (rows closes) F Q → (one : List Symbol → Reply X)
     → ((x : X) (us : List Symbol) → F [] x us → ⊥) → ((us : List Symbol) → ReadsAt F one us (one us)) → (ts : List Symbol) → ReadsAt Q (row closes one) ts (row closes one ts)

@@ -29,7 +29,22 @@ pub record ReadOk {X : Type 0} (F : List Symbol → X → List Symbol → Type 0
   pub stands : (tail : List Symbol) → F (front ++ tail) x tail
   pub stays : (r : List Symbol) → ahead rest ≡ ahead r → p (front ++ r) ≡ Ok (x, r)
 
-pub record ReadNot {X : Type 0} (F : List Symbol → X → List Symbol → Type 0) (p : List Symbol → Reply X) (ts : List Symbol) (f : Fault) : Type 0 where
+-- the front goes on to something of W with the next token
+pub record Meets {X : Type 0} (W : List Symbol → X → List Symbol → Type 0) (front rest : List Symbol) : Type 0 where
+  pub next : Symbol
+  pub comes : ahead rest ≡ Some next
+  pub beyond : List Symbol
+  pub formed : X
+  pub goes : (tail : List Symbol) → W (front ++ (next ∷ (beyond ++ tail))) formed tail
+
+-- what a fault says of the next token
+abbrev pub Goes : {X : Type 0} → Fault → (List Symbol → X → List Symbol → Type 0) → List Symbol → List Symbol → Type 0
+Goes (Unexpected k) W front rest = Unit {0}
+Goes (Deep k began) W front rest = Meets W front rest
+Goes (DotImport k) W front rest = Unit {0}
+Goes (Call k at) W front rest = Unit {0}
+
+pub record ReadNotOn {X : Type 0} (F W : List Symbol → X → List Symbol → Type 0) (p : List Symbol → Reply X) (ts : List Symbol) (f : Fault) : Type 0 where
   pub front : List Symbol
   pub rest : List Symbol
   pub split : ts ≡ front ++ rest
@@ -38,10 +53,25 @@ pub record ReadNot {X : Type 0} (F : List Symbol → X → List Symbol → Type 
   pub more : List Symbol
   pub made : X
   pub completes : (tail : List Symbol) → F (front ++ (more ++ tail)) made tail
+  pub met : Goes f W front rest
+
+-- where a path that is too long goes on to something of W
+abbrev pub ReadsOn : {X : Type 0} → (List Symbol → X → List Symbol → Type 0) → (List Symbol → X → List Symbol → Type 0) → (List Symbol → Reply X) → List Symbol → Reply X → Type 0
+ReadsOn F W p ts (Ok y) = ReadOk F p ts y.0 y.1
+ReadsOn F W p ts (Err f) = ReadNotOn F W p ts f
+
+abbrev pub ReadNot : {X : Type 0} → (List Symbol → X → List Symbol → Type 0) → (List Symbol → Reply X) → List Symbol → Fault → Type 0
+ReadNot F p ts f = ReadNotOn F F p ts f
 
 abbrev pub ReadsAt : {X : Type 0} → (List Symbol → X → List Symbol → Type 0) → (List Symbol → Reply X) → List Symbol → Reply X → Type 0
-ReadsAt F p ts (Ok y) = ReadOk F p ts y.0 y.1
-ReadsAt F p ts (Err f) = ReadNot F p ts f
+ReadsAt F p ts reply = ReadsOn F F p ts reply
+
+-- what goes on to V behind one front goes on to W behind another
+pub carry : {X : Type 0} (V W : List Symbol → X → List Symbol → Type 0) (front other rest : List Symbol) → ((us : List Symbol) (x : X) (r : List Symbol) → V (front ++ us) x r → W (other ++ us) x r) → (f : Fault) → Goes f V front rest → Goes f W other rest
+carry V W front other rest join (Unexpected k) h = tt
+carry V W front other rest join (Deep k began) h = record { next = h.next; comes = h.comes; beyond = h.beyond; formed = h.formed; goes = λ tail. join (h.next ∷ (h.beyond ++ tail)) h.formed tail (h.goes tail) }
+carry V W front other rest join (DotImport k) h = tt
+carry V W front other rest join (Call k at) h = tt
 
 -- ---- what stands next
 
@@ -69,35 +99,49 @@ pub done_reads : {X : Type 0} (F : List Symbol → X → List Symbol → Type 0)
     → ((r : List Symbol) → ahead ts ≡ ahead r → p r ≡ Ok (x, r)) → ReadOk F p ts x ts
 done_reads F p ts x h e = record { front = []; split = refl; stands = h; stays = e }
 
+pub refuse_on : {X : Type 0} (F W : List Symbol → X → List Symbol → Type 0) (p : List Symbol → Reply X) (ts : List Symbol) (f : Fault) → Sample F → f ≡ moved f (length ts)
+    → ((r : List Symbol) → ahead ts ≡ ahead r → p r ≡ Err (moved f (length r))) → Goes f W [] ts → ReadNotOn F W p ts f
+refuse_on F W p ts f s e same met = record { front = []; rest = ts; split = refl; place = e; stays = same; more = s.tokens; made = s.made; completes = s.stands; met = met }
+
 pub refuse_reads : {X : Type 0} (F : List Symbol → X → List Symbol → Type 0) (p : List Symbol → Reply X) (ts : List Symbol) (f : Fault) → Sample F → f ≡ moved f (length ts)
-    → ((r : List Symbol) → ahead ts ≡ ahead r → p r ≡ Err (moved f (length r))) → ReadNot F p ts f
-refuse_reads F p ts f s e same = record { front = []; rest = ts; split = refl; place = e; stays = same; more = s.tokens; made = s.made; completes = s.stands }
+    → ((r : List Symbol) → ahead ts ≡ ahead r → p r ≡ Err (moved f (length r))) → Goes f F [] ts → ReadNot F p ts f
+refuse_reads F p ts f s e same met = refuse_on F F p ts f s e same met
 
 -- a token that begins nothing here, and the end
 pub refuse_next : {X : Type 0} (F : List Symbol → X → List Symbol → Type 0) (p : List Symbol → Reply X) (k : Symbol) (ts : List Symbol) → Sample F
     → ((r : List Symbol) → p (k ∷ r) ≡ unexpected (k ∷ r)) → ReadNot F p (k ∷ ts) (Unexpected (length (k ∷ ts)))
-refuse_next F p k ts s e = refuse_reads F p (k ∷ ts) _ s refl (next_is (λ r. p r ≡ unexpected r) k e)
+refuse_next F p k ts s e = refuse_reads F p (k ∷ ts) _ s refl (next_is (λ r. p r ≡ unexpected r) k e) tt
 
 pub refuse_end : {X : Type 0} (F : List Symbol → X → List Symbol → Type 0) (p : List Symbol → Reply X) → Sample F
     → p [] ≡ unexpected [] → ReadNot F p [] (Unexpected (length {A = Symbol} []))
-refuse_end F p s e = refuse_reads F p [] _ s refl (ends_so (λ r. p r ≡ unexpected r) e)
+refuse_end F p s e = refuse_reads F p [] _ s refl (ends_so (λ r. p r ≡ unexpected r) e) tt
 
-pub deep_next : {X : Type 0} (F : List Symbol → X → List Symbol → Type 0) (p : List Symbol → Reply X) (k : Symbol) (ts : List Symbol) → Sample F
+abbrev pub Behind : {X : Type 0} → Symbol → (List Symbol → X → List Symbol → Type 0) → List Symbol → X → List Symbol → Type 0
+Behind k H us x rest = H (k ∷ us) x rest
+
+-- the next token and a sample behind it
+pub meets_next : {X : Type 0} (W : List Symbol → X → List Symbol → Type 0) (k : Symbol) (ts : List Symbol) → Sample (Behind k W) → Meets W [] (k ∷ ts)
+meets_next W k ts s = record { next = k; comes = refl; beyond = s.tokens; formed = s.made; goes = s.stands }
+
+abbrev whole_sample : {X : Type 0} (W : List Symbol → X → List Symbol → Type 0) (k : Symbol) → Sample (Behind k W) → Sample W
+whole_sample W k s = record { tokens = k ∷ s.tokens; made = s.made; stands = s.stands }
+
+pub deep_next : {X : Type 0} (F : List Symbol → X → List Symbol → Type 0) (p : List Symbol → Reply X) (k : Symbol) (ts : List Symbol) → Sample (Behind k F)
     → ((r : List Symbol) → p (k ∷ r) ≡ too_deep (k ∷ r)) → ReadNot F p (k ∷ ts) (Deep (length (k ∷ ts)) (symbol_start k))
-deep_next F p k ts s e = refuse_reads F p (k ∷ ts) _ s refl (next_is (λ r. p r ≡ Err (Deep (length r) (symbol_start k))) k e)
+deep_next F p k ts s e = refuse_reads F p (k ∷ ts) _ (whole_sample F k s) refl (next_is (λ r. p r ≡ Err (Deep (length r) (symbol_start k))) k e) (meets_next F k ts s)
 
 -- ---- another reader, another relation
 
 -- p is q wherever the next token is this one
-pub like_reads : {X : Type 0} (F : List Symbol → X → List Symbol → Type 0) (p q : List Symbol → Reply X) (ts : List Symbol) (reply : Reply X)
-    → ((r : List Symbol) → ahead ts ≡ ahead r → p r ≡ q r) → ReadsAt F q ts reply → ReadsAt F p ts reply
-like_reads F p q ts (Ok y) same h = record {
+pub like_on : {X : Type 0} (F W : List Symbol → X → List Symbol → Type 0) (p q : List Symbol → Reply X) (ts : List Symbol) (reply : Reply X)
+    → ((r : List Symbol) → ahead ts ≡ ahead r → p r ≡ q r) → ReadsOn F W q ts reply → ReadsOn F W p ts reply
+like_on F W p q ts (Ok y) same h = record {
   front = h.front;
   split = h.split;
   stands = h.stands;
   stays = λ r e. same (h.front ++ r) (ap ahead h.split ∙ ahead_along h.front y.1 r e) ∙ h.stays r e;
 }
-like_reads F p q ts (Err f) same h = record {
+like_on F W p q ts (Err f) same h = record {
   front = h.front;
   rest = h.rest;
   split = h.split;
@@ -106,12 +150,17 @@ like_reads F p q ts (Err f) same h = record {
   more = h.more;
   made = h.made;
   completes = h.completes;
+  met = h.met;
 }
 
-pub as_reads : {X : Type 0} (F G : List Symbol → X → List Symbol → Type 0) (p : List Symbol → Reply X) (ts : List Symbol) (reply : Reply X)
-    → ((us : List Symbol) (x : X) (rest : List Symbol) → F us x rest → G us x rest) → ReadsAt F p ts reply → ReadsAt G p ts reply
-as_reads F G p ts (Ok y) join h = record { front = h.front; split = h.split; stands = λ tail. join _ _ _ (h.stands tail); stays = h.stays }
-as_reads F G p ts (Err f) join h = record {
+pub like_reads : {X : Type 0} (F : List Symbol → X → List Symbol → Type 0) (p q : List Symbol → Reply X) (ts : List Symbol) (reply : Reply X)
+    → ((r : List Symbol) → ahead ts ≡ ahead r → p r ≡ q r) → ReadsAt F q ts reply → ReadsAt F p ts reply
+like_reads F p q ts reply same h = like_on F F p q ts reply same h
+
+pub as_on : {X : Type 0} (F G V W : List Symbol → X → List Symbol → Type 0) (p : List Symbol → Reply X) (ts : List Symbol) (reply : Reply X)
+    → ((us : List Symbol) (x : X) (rest : List Symbol) → F us x rest → G us x rest) → ((us : List Symbol) (x : X) (rest : List Symbol) → V us x rest → W us x rest) → ReadsOn F V p ts reply → ReadsOn G W p ts reply
+as_on F G V W p ts (Ok y) join also h = record { front = h.front; split = h.split; stands = λ tail. join _ _ _ (h.stands tail); stays = h.stays }
+as_on F G V W p ts (Err f) join also h = record {
   front = h.front;
   rest = h.rest;
   split = h.split;
@@ -120,22 +169,24 @@ as_reads F G p ts (Err f) join h = record {
   more = h.more;
   made = h.made;
   completes = λ tail. join _ _ _ (h.completes tail);
+  met = carry V W h.front h.front h.rest (λ us x r w. also _ _ _ w) f h.met;
 }
+
+pub as_reads : {X : Type 0} (F G : List Symbol → X → List Symbol → Type 0) (p : List Symbol → Reply X) (ts : List Symbol) (reply : Reply X)
+    → ((us : List Symbol) (x : X) (rest : List Symbol) → F us x rest → G us x rest) → ReadsAt F p ts reply → ReadsAt G p ts reply
+as_reads F G p ts reply join h = as_on F G F G p ts reply join join h
 
 -- ---- a token, and then q
 
-abbrev pub Behind : {X : Type 0} → Symbol → (List Symbol → X → List Symbol → Type 0) → List Symbol → X → List Symbol → Type 0
-Behind k H us x rest = H (k ∷ us) x rest
-
-pub cons_reads : {X : Type 0} (H : List Symbol → X → List Symbol → Type 0) (p q : List Symbol → Reply X) (k : Symbol) (ts : List Symbol) (reply : Reply X)
-    → ((r : List Symbol) → p (k ∷ r) ≡ q r) → ReadsAt (Behind k H) q ts reply → ReadsAt H p (k ∷ ts) reply
-cons_reads H p q k ts (Ok y) same h = record {
+pub cons_on : {X : Type 0} (H W : List Symbol → X → List Symbol → Type 0) (p q : List Symbol → Reply X) (k : Symbol) (ts : List Symbol) (reply : Reply X)
+    → ((r : List Symbol) → p (k ∷ r) ≡ q r) → ReadsOn (Behind k H) (Behind k W) q ts reply → ReadsOn H W p (k ∷ ts) reply
+cons_on H W p q k ts (Ok y) same h = record {
   front = k ∷ h.front;
   split = ap (λ (us : List Symbol). k ∷ us) h.split;
   stands = h.stands;
   stays = λ r e. same (h.front ++ r) ∙ h.stays r e;
 }
-cons_reads H p q k ts (Err f) same h = record {
+cons_on H W p q k ts (Err f) same h = record {
   front = k ∷ h.front;
   rest = h.rest;
   split = ap (λ (us : List Symbol). k ∷ us) h.split;
@@ -144,7 +195,12 @@ cons_reads H p q k ts (Err f) same h = record {
   more = h.more;
   made = h.made;
   completes = h.completes;
+  met = carry (Behind k W) W h.front (k ∷ h.front) h.rest (λ us x r w. w) f h.met;
 }
+
+pub cons_reads : {X : Type 0} (H : List Symbol → X → List Symbol → Type 0) (p q : List Symbol → Reply X) (k : Symbol) (ts : List Symbol) (reply : Reply X)
+    → ((r : List Symbol) → p (k ∷ r) ≡ q r) → ReadsAt (Behind k H) q ts reply → ReadsAt H p (k ∷ ts) reply
+cons_reads H p q k ts reply same h = cons_on H H p q k ts reply same h
 
 -- a kind of token
 pub record Kind (is : Symbol → Bool) : Type 0 where
@@ -203,7 +259,23 @@ then_reads F H p q ts a us h (Err f) g = record {
   more = g.more;
   made = g.made;
   completes = λ tail. rw append_assoc (g.completes tail (h.front ++ (g.front ++ (g.more ++ tail))) (h.stands (g.front ++ (g.more ++ tail))));
+  met = carry (After F H a) H g.front (h.front ++ g.front) g.rest (λ vs b r w. rw append_assoc (w (h.front ++ (g.front ++ vs)) (h.stands (g.front ++ vs)))) f g.met;
 }
+
+-- what follows, where p itself is refused
+carry_on : {A B : Type 0} (F : List Symbol → A → List Symbol → Type 0) (H : List Symbol → B → List Symbol → Type 0) (front rest : List Symbol) → ((a : A) → Sample (After F H a)) → (f : Fault) → Goes f F front rest → Goes f H front rest
+carry_on F H front rest s (Unexpected k) h = tt
+carry_on F H front rest s (Deep k began) h =
+    let more = s h.formed in
+    record {
+      next = h.next;
+      comes = h.comes;
+      beyond = h.beyond ++ more.tokens;
+      formed = more.made;
+      goes = λ tail. rw append_assoc (more.stands tail (front ++ (h.next ∷ (h.beyond ++ (more.tokens ++ tail)))) (h.goes (more.tokens ++ tail)));
+    }
+carry_on F H front rest s (DotImport k) h = tt
+carry_on F H front rest s (Call k at) h = tt
 
 pub bind_reads : {A B : Type 0} (F : List Symbol → A → List Symbol → Type 0) (H : List Symbol → B → List Symbol → Type 0) (p : List Symbol → Reply A) (q : A → List Symbol → Reply B) (ts : List Symbol)
     → ((a : A) → Sample (After F H a)) → ((a : A) (us : List Symbol) → ReadOk F p ts a us → ReadsAt (After F H a) (q a) us (q a us))
@@ -220,7 +292,61 @@ bind_reads F H p q ts s g (Err f) h =
       more = h.more ++ more.tokens;
       made = more.made;
       completes = λ tail. rw append_assoc (more.stands tail (h.front ++ (h.more ++ (more.tokens ++ tail))) (h.completes (more.tokens ++ tail)));
+      met = carry_on F H h.front h.rest s f h.met;
     }
+
+-- where a path of the first that is too long goes on to something of W, which stands for something of H
+pub bind_on : {A B : Type 0} (F W : List Symbol → A → List Symbol → Type 0) (H : List Symbol → B → List Symbol → Type 0) (p : List Symbol → Reply A) (q : A → List Symbol → Reply B) (ts : List Symbol)
+    → ((a : A) → Sample (After F H a)) → (whole : A → B) → ((us : List Symbol) (a : A) (rest : List Symbol) → W us a rest → H us (whole a) rest)
+    → ((a : A) (us : List Symbol) → ReadOk F p ts a us → ReadsAt (After F H a) (q a) us (q a us))
+    → (reply : Reply A) → ReadsOn F W p ts reply → ReadsAt H (bound p q) ts (reply >>= λ z. q z.0 z.1)
+bind_on F W H p q ts s whole join g (Ok z) h = then_reads F H p q ts z.0 z.1 h (q z.0 z.1) (g z.0 z.1 h)
+bind_on F W H p q ts s whole join g (Err f) h =
+    let more = s h.made in
+    record {
+      front = h.front;
+      rest = h.rest;
+      split = h.split;
+      place = h.place;
+      stays = λ r e. ap (λ (m : Reply _). m >>= λ z. q z.0 z.1) (h.stays r e);
+      more = h.more ++ more.tokens;
+      made = more.made;
+      completes = λ tail. rw append_assoc (more.stands tail (h.front ++ (h.more ++ (more.tokens ++ tail))) (h.completes (more.tokens ++ tail)));
+      met = whole_goes W H h.front h.rest whole join f h.met;
+    }
+  where
+    whole_goes : {A B : Type 0} (V : List Symbol → A → List Symbol → Type 0) (G : List Symbol → B → List Symbol → Type 0) (front rest : List Symbol) (make : A → B) → ((us : List Symbol) (a : A) (r : List Symbol) → V us a r → G us (make a) r) → (e : Fault) → Goes e V front rest → Goes e G front rest
+    whole_goes V G front rest make h' (Unexpected k) m = tt
+    whole_goes V G front rest make h' (Deep k began) m = record { next = m.next; comes = m.comes; beyond = m.beyond; formed = make m.formed; goes = λ tail. h' (front ++ (m.next ∷ (m.beyond ++ tail))) m.formed tail (m.goes tail) }
+    whole_goes V G front rest make h' (DotImport k) m = tt
+    whole_goes V G front rest make h' (Call k at) m = tt
+
+-- something of F that is followed by these tokens is something of W
+ended_goes : {X : Type 0} (F W : List Symbol → X → List Symbol → Type 0) (end front rest : List Symbol) → ((us : List Symbol) (x : X) (r : List Symbol) → F us x (end ++ r) → W us x r) → (f : Fault) → Goes f F front rest → Goes f W front rest
+ended_goes F W end front rest join (Unexpected k) h = tt
+ended_goes F W end front rest join (Deep k began) h = record {
+  next = h.next;
+  comes = h.comes;
+  beyond = h.beyond ++ end;
+  formed = h.formed;
+  goes = λ tail. rw append_assoc (join (front ++ (h.next ∷ (h.beyond ++ (end ++ tail)))) h.formed tail (h.goes (end ++ tail)));
+}
+ended_goes F W end front rest join (DotImport k) h = tt
+ended_goes F W end front rest join (Call k at) h = tt
+
+pub ended_on : {X : Type 0} (F W : List Symbol → X → List Symbol → Type 0) (end : List Symbol) (p : List Symbol → Reply X) (ts : List Symbol) (reply : Reply X) → ((us : List Symbol) (x : X) (r : List Symbol) → F us x (end ++ r) → W us x r) → ReadsAt F p ts reply → ReadsOn F W p ts reply
+ended_on F W end p ts (Ok y) join h = h
+ended_on F W end p ts (Err f) join h = record {
+  front = h.front;
+  rest = h.rest;
+  split = h.split;
+  place = h.place;
+  stays = h.stays;
+  more = h.more;
+  made = h.made;
+  completes = h.completes;
+  met = ended_goes F W end h.front h.rest join f h.met;
+}
 
 -- p, and then a value made of what it read
 pub value_reads : {A B : Type 0} (F : List Symbol → A → List Symbol → Type 0) (H : List Symbol → B → List Symbol → Type 0) (p : List Symbol → Reply A) (v : A → B) (ts : List Symbol)
@@ -234,10 +360,16 @@ value_reads F H p v ts join reply h =
 -- ---- a choice by the next token
 
 pub stuck_reads : {X : Type 0} (F : List Symbol → X → List Symbol → Type 0) (ts : List Symbol) → Sample F → ReadsAt F unexpected ts (unexpected ts)
-stuck_reads F ts s = refuse_reads F unexpected ts _ s refl (λ r e. refl)
+stuck_reads F ts s = refuse_reads F unexpected ts _ s refl (λ r e. refl) tt
 
-pub deep_reads : {X : Type 0} (F : List Symbol → X → List Symbol → Type 0) (ts : List Symbol) → Sample F → ReadsAt F too_deep ts (too_deep ts)
-deep_reads F ts s = refuse_reads F too_deep ts _ s refl (λ r e. ap (λ (at : ℕ). Err (Deep (length r) at)) (sym (start_same ts r e)))
+-- some next token that shows it, and for each such token what may stand behind it
+pub deep_on : {X : Type 0} (F W : List Symbol → X → List Symbol → Type 0) (is : Symbol → Bool) (ts : List Symbol) → Sample F → ((k : Symbol) → is k ≡ true → Sample (Behind k W)) → starts is ts ≡ true → ReadsOn F W too_deep ts (too_deep ts)
+deep_on F W is [] s next e = absurd cc
+deep_on F W is (k ∷ ts) s next e =
+    refuse_on F W too_deep (k ∷ ts) _ s refl (λ r e'. ap (λ (at : ℕ). Err (Deep (length r) at)) (sym (start_same (k ∷ ts) r e'))) (meets_next W k ts (next k e))
+
+pub deep_reads : {X : Type 0} (F : List Symbol → X → List Symbol → Type 0) (is : Symbol → Bool) (ts : List Symbol) → Sample F → ((k : Symbol) → is k ≡ true → Sample (Behind k F)) → starts is ts ≡ true → ReadsAt F too_deep ts (too_deep ts)
+deep_reads F is ts s next e = deep_on F F is ts s next e
 
 -- ---- a path that is too long, told at the first token
 
@@ -245,9 +377,9 @@ deep_reads F ts s = refuse_reads F too_deep ts _ s refl (λ r e. ap (λ (at : �
 abbrev Tells : {X : Type 0} → (List Symbol → Reply X) → (List Symbol → Reply X) → List Symbol → ℕ → Type 0
 Tells {X} p other ts at = (front rest r : List Symbol) (reply : Reply X) → ts ≡ front ++ rest → ahead rest ≡ ahead r → p (front ++ r) ≡ reply → other (front ++ r) ≡ told_at at reply
 
-told_not : {X : Type 0} (F : List Symbol → X → List Symbol → Type 0) (p other : List Symbol → Reply X) (ts : List Symbol) (at : ℕ) → Tells p other ts at → (f g : Fault) → (h : ReadNot F p ts f) → g ≡ moved g (length h.rest)
+told_not : {X : Type 0} (F : List Symbol → X → List Symbol → Type 0) (p other : List Symbol → Reply X) (ts : List Symbol) (at : ℕ) → Tells p other ts at → (f g : Fault) → (h : ReadNot F p ts f) → g ≡ moved g (length h.rest) → (Goes f F h.front h.rest → Goes g F h.front h.rest)
     → ((n : ℕ) → told_at {X = X} at (Err (moved f n)) ≡ Err (moved g n)) → ReadNot F other ts g
-told_not F p other ts at tells f g h place same = record {
+told_not F p other ts at tells f g h place goes same = record {
   front = h.front;
   rest = h.rest;
   split = h.split;
@@ -256,17 +388,18 @@ told_not F p other ts at tells f g h place same = record {
   more = h.more;
   made = h.made;
   completes = h.completes;
+  met = goes h.met;
 }
 
 told_reads : {X : Type 0} (F : List Symbol → X → List Symbol → Type 0) (p other : List Symbol → Reply X) (ts : List Symbol) (at : ℕ) → Tells p other ts at → (reply : Reply X) → ReadsAt F p ts reply → ReadsAt F other ts (told_at at reply)
 told_reads F p other ts at tells (Ok z) h = record { front = h.front; split = h.split; stands = h.stands; stays = λ r e. tells h.front z.1 r (Ok (z.0, r)) h.split e (h.stays r e) }
-told_reads F p other ts at tells (Err (Unexpected k)) h = told_not F p other ts at tells (Unexpected k) (Unexpected k) h h.place (λ n. refl)
+told_reads F p other ts at tells (Err (Unexpected k)) h = told_not F p other ts at tells (Unexpected k) (Unexpected k) h h.place (λ w. w) (λ n. refl)
 told_reads F p other ts at tells (Err (Deep k began)) h =
     let place : Deep k began ≡ Deep (length h.rest) began = h.place in
     let e : k ≡ length h.rest = cc in
-    told_not F p other ts at tells (Deep k began) (Deep k at) h (ap (λ (n : ℕ). Deep n at) e) (λ n. refl)
-told_reads F p other ts at tells (Err (DotImport k)) h = told_not F p other ts at tells (DotImport k) (DotImport k) h h.place (λ n. refl)
-told_reads F p other ts at tells (Err (Call k c)) h = told_not F p other ts at tells (Call k c) (Call k c) h h.place (λ n. refl)
+    told_not F p other ts at tells (Deep k began) (Deep k at) h (ap (λ (n : ℕ). Deep n at) e) (λ w. w) (λ n. refl)
+told_reads F p other ts at tells (Err (DotImport k)) h = told_not F p other ts at tells (DotImport k) (DotImport k) h h.place (λ w. w) (λ n. refl)
+told_reads F p other ts at tells (Err (Call k c)) h = told_not F p other ts at tells (Call k c) (Call k c) h h.place (λ w. w) (λ n. refl)
 
 abbrev pub told_by : {X : Type 0} → ℕ → (List Symbol → Reply X) → List Symbol → Reply X
 told_by at p us = told_at at (p us)
@@ -289,34 +422,48 @@ starts_same is (k ∷ ts) (j ∷ r) e = let same : k ≡ j = cc in ap is same
 abbrev pub peek_then : {X : Type 0} → (Symbol → Bool) → (List Symbol → Reply X) → (List Symbol → Reply X) → List Symbol → Reply X
 peek_then is q other ts = peek is ts (q ts) (other ts)
 
-peek_so : {X : Type 0} (F : List Symbol → X → List Symbol → Type 0) (is : Symbol → Bool) (q other : List Symbol → Reply X) (ts : List Symbol) (b : Bool) → starts is ts ≡ b
-    → (b ≡ true → ReadsAt F q ts (q ts)) → (b ≡ false → ReadsAt F other ts (other ts)) → ReadsAt F (peek_then is q other) ts (if b then q ts else other ts)
-peek_so F is q other ts true e found otherwise = like_reads F (peek_then is q other) q ts (q ts) (λ r h. let here : starts is r ≡ true = sym (starts_same is ts r h) ∙ e in rw here refl) (found refl)
-peek_so F is q other ts false e found otherwise = like_reads F (peek_then is q other) other ts (other ts) (λ r h. let here : starts is r ≡ false = sym (starts_same is ts r h) ∙ e in rw here refl) (otherwise refl)
+peek_so : {X : Type 0} (F W : List Symbol → X → List Symbol → Type 0) (is : Symbol → Bool) (q other : List Symbol → Reply X) (ts : List Symbol) (b : Bool) → starts is ts ≡ b
+    → (b ≡ true → ReadsOn F W q ts (q ts)) → (b ≡ false → ReadsOn F W other ts (other ts)) → ReadsOn F W (peek_then is q other) ts (if b then q ts else other ts)
+peek_so F W is q other ts true e found otherwise = like_on F W (peek_then is q other) q ts (q ts) (λ r h. let here : starts is r ≡ true = sym (starts_same is ts r h) ∙ e in rw here refl) (found refl)
+peek_so F W is q other ts false e found otherwise = like_on F W (peek_then is q other) other ts (other ts) (λ r h. let here : starts is r ≡ false = sym (starts_same is ts r h) ∙ e in rw here refl) (otherwise refl)
+
+pub peek_on : {X : Type 0} (F W : List Symbol → X → List Symbol → Type 0) (is : Symbol → Bool) (q other : List Symbol → Reply X) (ts : List Symbol)
+    → (starts is ts ≡ true → ReadsOn F W q ts (q ts)) → (starts is ts ≡ false → ReadsOn F W other ts (other ts)) → ReadsOn F W (peek_then is q other) ts (peek_then is q other ts)
+peek_on F W is q other ts found otherwise = peek_so F W is q other ts (starts is ts) refl found otherwise
 
 pub peek_reads : {X : Type 0} (F : List Symbol → X → List Symbol → Type 0) (is : Symbol → Bool) (q other : List Symbol → Reply X) (ts : List Symbol)
     → (starts is ts ≡ true → ReadsAt F q ts (q ts)) → (starts is ts ≡ false → ReadsAt F other ts (other ts)) → ReadsAt F (peek_then is q other) ts (peek_then is q other ts)
-peek_reads F is q other ts found otherwise = peek_so F is q other ts (starts is ts) refl found otherwise
+peek_reads F is q other ts found otherwise = peek_on F F is q other ts found otherwise
 
 abbrev pub choose_then : {X : Type 0} → (Symbol → Bool) → (List Symbol → Reply X) → (List Symbol → Reply X) → List Symbol → Reply X
 choose_then is q other ts = choose (past is ts) q (other ts)
 
 -- the token comes next, or it doesn't
-choose_next : {X : Type 0} (is : Symbol → Bool) (H : List Symbol → X → List Symbol → Type 0) (K : Kind is) (q other : List Symbol → Reply X) (k : Symbol) (ts : List Symbol) (b : Bool) → is k ≡ b
-    → ReadsAt (Past K H) q ts (q ts) → (b ≡ false → ReadsAt H other (k ∷ ts) (other (k ∷ ts)))
-    → ReadsAt H (choose_then is q other) (k ∷ ts) (choose (if b then Ok ts else unexpected (k ∷ ts)) q (other (k ∷ ts)))
-choose_next is H K q other k ts true e found otherwise =
+choose_next : {X : Type 0} (is : Symbol → Bool) (H W : List Symbol → X → List Symbol → Type 0) (K : Kind is) (q other : List Symbol → Reply X) (k : Symbol) (ts : List Symbol) (b : Bool) → is k ≡ b
+    → ReadsOn (Past K H) (Past K W) q ts (q ts) → (b ≡ false → ReadsOn H W other (k ∷ ts) (other (k ∷ ts)))
+    → ReadsOn H W (choose_then is q other) (k ∷ ts) (choose (if b then Ok ts else unexpected (k ∷ ts)) q (other (k ∷ ts)))
+choose_next is H W K q other k ts true e found otherwise =
     let o = K.only k e in
-    cons_reads H (choose_then is q other) q k ts (q ts) (λ r. rw e refl)
-    (as_reads (Past K H) (Behind k H) q ts (q ts) (λ us x rest w. subst (λ j. H (j ∷ us) x rest) (sym o.1) (w o.0)) found)
-choose_next is H K q other k ts false e found otherwise =
-    like_reads H (choose_then is q other) other (k ∷ ts) (other (k ∷ ts)) (next_is (λ r. choose_then is q other r ≡ other r) k (λ r. rw e refl)) (otherwise refl)
+    cons_on H W (choose_then is q other) q k ts (q ts) (λ r. rw e refl)
+    (as_on (Past K H) (Behind k H) (Past K W) (Behind k W) q ts (q ts) (λ us x rest w. subst (λ j. H (j ∷ us) x rest) (sym o.1) (w o.0)) (λ us x rest w. subst (λ j. W (j ∷ us) x rest) (sym o.1) (w o.0)) found)
+choose_next is H W K q other k ts false e found otherwise =
+    like_on H W (choose_then is q other) other (k ∷ ts) (other (k ∷ ts)) (next_is (λ r. choose_then is q other r ≡ other r) k (λ r. rw e refl)) (otherwise refl)
+
+choose_on_at : {X : Type 0} (is : Symbol → Bool) (H W : List Symbol → X → List Symbol → Type 0) (K : Kind is) (q other : List Symbol → Reply X) (ts : List Symbol)
+    → ((us : List Symbol) → length us < length ts → ReadsOn (Past K H) (Past K W) q us (q us)) → (starts is ts ≡ false → ReadsOn H W other ts (other ts))
+    → ReadsOn H W (choose_then is q other) ts (choose_then is q other ts)
+choose_on_at is H W K q other [] found otherwise = like_on H W (choose_then is q other) other [] (other []) (ends_so (λ r. choose_then is q other r ≡ other r) refl) (otherwise refl)
+choose_on_at is H W K q other (k ∷ ts) found otherwise = choose_next is H W K q other k ts (is k) refl (found ts (omega arith)) otherwise
+
+pub choose_on : {X : Type 0} (is : Symbol → Bool) (H W : List Symbol → X → List Symbol → Type 0) (K : Kind is) (q other : List Symbol → Reply X) (ts : List Symbol)
+    → ((us : List Symbol) → ReadsOn (Past K H) (Past K W) q us (q us)) → (starts is ts ≡ false → ReadsOn H W other ts (other ts))
+    → ReadsOn H W (choose_then is q other) ts (choose_then is q other ts)
+choose_on is H W K q other ts found otherwise = choose_on_at is H W K q other ts (λ us less. found us) otherwise
 
 pub choose_reads_on : {X : Type 0} (is : Symbol → Bool) (H : List Symbol → X → List Symbol → Type 0) (K : Kind is) (q other : List Symbol → Reply X) (ts : List Symbol)
     → ((us : List Symbol) → length us < length ts → ReadsAt (Past K H) q us (q us)) → (starts is ts ≡ false → ReadsAt H other ts (other ts))
     → ReadsAt H (choose_then is q other) ts (choose_then is q other ts)
-choose_reads_on is H K q other [] found otherwise = like_reads H (choose_then is q other) other [] (other []) (ends_so (λ r. choose_then is q other r ≡ other r) refl) (otherwise refl)
-choose_reads_on is H K q other (k ∷ ts) found otherwise = choose_next is H K q other k ts (is k) refl (found ts (omega arith)) otherwise
+choose_reads_on is H K q other ts found otherwise = choose_on_at is H H K q other ts found otherwise
 
 pub choose_reads : {X : Type 0} (is : Symbol → Bool) (H : List Symbol → X → List Symbol → Type 0) (K : Kind is) (q other : List Symbol → Reply X) (ts : List Symbol)
     → ((us : List Symbol) → ReadsAt (Past K H) q us (q us)) → (starts is ts ≡ false → ReadsAt H other ts (other ts))
@@ -347,9 +494,22 @@ only_not : {X : Type 0} (F G : List Symbol → X → List Symbol → Type 0) (ts
 only_not F G ts [] rest more x join s e h = (s.tokens, s.made, s.stands)
 only_not F G ts (k ∷ front) rest more x join s e h = (more, x, λ tail. join k (front ++ (more ++ tail)) x tail (ap ahead e) (h tail))
 
+only_met : {X : Type 0} (F G : List Symbol → X → List Symbol → Type 0) (ts front rest : List Symbol) → ((k : Symbol) (us : List Symbol) (z : X) (vs : List Symbol) → ahead ts ≡ Some k → F (k ∷ us) z vs → G (k ∷ us) z vs)
+    → ts ≡ front ++ rest → Meets F front rest → Meets G front rest
+only_met F G ts [] rest join e h = record { next = h.next; comes = h.comes; beyond = h.beyond; formed = h.formed; goes = λ tail. join h.next (h.beyond ++ tail) h.formed tail (ap ahead e ∙ h.comes) (h.goes tail) }
+only_met F G ts (k ∷ front) rest join e h =
+    record { next = h.next; comes = h.comes; beyond = h.beyond; formed = h.formed; goes = λ tail. join k (front ++ (h.next ∷ (h.beyond ++ tail))) h.formed tail (ap ahead e) (h.goes tail) }
+
+only_goes : {X : Type 0} (F G : List Symbol → X → List Symbol → Type 0) (ts front rest : List Symbol) → ((k : Symbol) (us : List Symbol) (z : X) (vs : List Symbol) → ahead ts ≡ Some k → F (k ∷ us) z vs → G (k ∷ us) z vs)
+    → ts ≡ front ++ rest → (f : Fault) → Goes f F front rest → Goes f G front rest
+only_goes F G ts front rest join e (Unexpected k) h = tt
+only_goes F G ts front rest join e (Deep k began) h = only_met F G ts front rest join e h
+only_goes F G ts front rest join e (DotImport k) h = tt
+only_goes F G ts front rest join e (Call k at) h = tt
+
 pub only_reads : {X : Type 0} (F G : List Symbol → X → List Symbol → Type 0) (p : List Symbol → Reply X) (ts : List Symbol) → ((k : Symbol) (us : List Symbol) (z : X) (vs : List Symbol) → ahead ts ≡ Some k → F (k ∷ us) z vs → G (k ∷ us) z vs)
     → ((z : X) (us : List Symbol) → F [] z us → ⊥) → Sample G → (reply : Reply X) → ReadsAt F p ts reply → ReadsAt G p ts reply
 only_reads F G p ts join never s (Ok y) h = record { front = h.front; split = h.split; stands = only_done F G ts h.front y.1 y.0 join never h.split h.stands; stays = h.stays }
 only_reads F G p ts join never s (Err f) h =
     let o = only_not F G ts h.front h.rest h.more h.made join s h.split h.completes in
-    record { front = h.front; rest = h.rest; split = h.split; place = h.place; stays = h.stays; more = o.0; made = o.1; completes = o.2 }
+    record { front = h.front; rest = h.rest; split = h.split; place = h.place; stays = h.stays; more = o.0; made = o.1; completes = o.2; met = only_goes F G ts h.front h.rest join h.split f h.met }

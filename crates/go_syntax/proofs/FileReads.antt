@@ -60,7 +60,7 @@ import_reads (t.Text s ∷ ts) =
 import_reads (t.Ident i ∷ ts) =
     cons_reads (Any IsImport) import_at (named_import i) (t.Ident i) ts (named_import i ts) (λ r. refl)
     (value_reads IsText (Behind (t.Ident i) (Any IsImport)) text_at (λ s. import (Some i) s) ts (λ us s rest w. rw w (0, d.named_so i s rest)) (text_at ts) (text_reads ts))
-import_reads (t.Dot at ∷ ts) = refuse_reads (Any IsImport) import_at (t.Dot at ∷ ts) (DotImport (length (t.Dot at ∷ ts))) some_import refl (next_is (λ r. import_at r ≡ dot_import r) (t.Dot at) (λ r. refl))
+import_reads (t.Dot at ∷ ts) = refuse_reads (Any IsImport) import_at (t.Dot at ∷ ts) (DotImport (length (t.Dot at ∷ ts))) some_import refl (next_is (λ r. import_at r ≡ dot_import r) (t.Dot at) (λ r. refl)) tt
 import_reads (k ∷ ts) = refuse_next (Any IsImport) import_at k ts some_import (λ r. refl)
 
 no_import_of : (m : ℕ) (x : Import) (us : List Symbol) → IsImport m [] x us → ⊥

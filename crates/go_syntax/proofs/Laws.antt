@@ -1,5 +1,5 @@
 -- What a whole reading says of the tokens.
-use Rattle.std.proofs.Common.{◌≡◌, ℕ, ◌<◌, ◌≤◌, List, [], ◌∷◌, ◌++◌, length, Result, Ok, Err, refl, sym, ap, subst, ◌∙◌, append_assoc, arith}
+use Rattle.std.proofs.Common.{◌≡◌, ℕ, ◌<◌, ◌≤◌, List, [], ◌∷◌, ◌++◌, length, Option, Some, None, Result, Ok, Err, refl, sym, ap, subst, ◌∙◌, append_assoc, arith}
 use Rattle.std.proofs.lemmas.List.{append-nil}
 use Rattle.go_expr_syntax.specs.declared.symbols.Symbol.{Symbol}
 use Rattle.go_syntax.specs.declared.tree.SourceFile.{SourceFile}
@@ -8,8 +8,8 @@ use Rattle.go_expr_syntax.specs.declared.faults.Fault.TheVariants.{Unexpected, D
 use Rattle.go_expr_syntax.specs.Reading.{Reply, ◌>>=◌}
 use Rattle.go_syntax.specs.Decls.{IsFileOf}
 use Rattle.go_syntax.specs.Files.{file_front, at_end, file_at}
-use Rattle.go_syntax.specs.Outcomes.{IsFile, BeginsFile, Stops, IsUnexpected, Deepens, IsTooDeep, Explains}
-use Rattle.go_expr_syntax.proofs.Viable.{ReadOk, ReadNot, ReadsAt, ahead}
+use Rattle.go_syntax.specs.Outcomes.{IsFile, BeginsFile, Stops, IsUnexpected, Deepens, GoesOn, IsTooDeep, Explains}
+use Rattle.go_expr_syntax.proofs.Viable.{Meets, ReadOk, ReadNot, ReadsAt, ahead}
 use Rattle.go_syntax.proofs.FileReads.{FileAt, file_reads}
 use Rattle.go_syntax.proofs.FileAgain.{file_again}
 use Rattle.go_expr_syntax.proofs.Agreeing.{Agrees}
@@ -112,6 +112,14 @@ deepens_if : (n : ℕ) (front rest : List Symbol) → ((r : List Symbol) (f : So
 deepens_if n front [] h = λ f m w. h [] f m refl (subst (λ us. IsFileOf m us f []) (sym (append-nil front)) w)
 deepens_if n front (k ∷ ts) h = λ more f m w. h (k ∷ more) f m refl w
 
+goes_if : (front rest : List Symbol) → Meets FileAt front rest → GoesOn front rest
+goes_if front [] h = let c : None ≡ Some h.next = h.comes in absurd cc
+goes_if front (k ∷ ts) h =
+    let c : Some k ≡ Some h.next = h.comes in
+    let same : h.next ≡ k = cc in
+    let w = h.goes [] in
+    (h.beyond ++ [], h.formed, subst (λ us. IsFile us h.formed) (ap (λ (j : Symbol). front ++ j ∷ (h.beyond ++ [])) same ∙ sym (append_assoc front (k ∷ []) (h.beyond ++ []))) w)
+
 deep_at : (n : ℕ) → 2 ≤ n → (ts : List Symbol) (k began : ℕ) → ReadNot FileAt (file_front n) ts (Deep k began) → IsTooDeep n ts k
 deep_at n two ts k began h = record {
   front = h.front;
@@ -119,6 +127,7 @@ deep_at n two ts k began h = record {
   split = h.split;
   place = let e : Deep k began ≡ Deep (length h.rest) began = h.place in cc;
   begins = begins_of n ts (Deep k began) h;
+  goes = goes_if h.front h.rest h.met;
   deeper = deepens_if n h.front h.rest (λ r f m e w. clash_deep n m (length r) began f (file_front n (h.front ++ r)) (h.stays r e) (again n m two (h.front ++ r) f w));
 }
 

@@ -18,3 +18,4 @@ pub mod SkipTurns
 pub mod FuncTurns
 pub mod GenericTurns
 pub mod StandingFileLaws
+pub mod FirstPlace

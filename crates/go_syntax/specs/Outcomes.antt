@@ -32,13 +32,19 @@ abbrev pub Deepens : ℕ → List Symbol → List Symbol → Type 0
 Deepens n front [] = (f : SourceFile) (m : ℕ) → IsFileOf m front f [] → n < m
 Deepens n front (k ∷ ts) = (more : List Symbol) (f : SourceFile) (m : ℕ) → IsFileOf m (front ++ k ∷ more) f [] → n < m
 
--- The tokens so far begin a file, and with the next one a path has more than n nodes. So many are left.
+-- with the next token they begin a file
+abbrev pub GoesOn : List Symbol → List Symbol → Type 0
+GoesOn front [] = ⊥
+GoesOn front (k ∷ ts) = BeginsFile (front ++ k ∷ [])
+
+-- The tokens so far begin a file, and with the next one too, but then a path has more than n nodes. So many are left.
 pub record IsTooDeep (n : ℕ) (ts : List Symbol) (left : ℕ) : Type 0 where
   pub front : List Symbol
   pub rest : List Symbol
   pub split : ts ≡ front ++ rest
   pub place : left ≡ length rest
   pub begins : BeginsFile front
+  pub goes : GoesOn front rest
   pub deeper : Deepens n front rest
 
 -- what each fault says of the tokens, where n nodes are allowed

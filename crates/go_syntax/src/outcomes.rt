@@ -19,8 +19,10 @@ pub fn no_fault_of_a_file()
         → IsTooDeep n tokens left → n < m }
 {}
 
-/// Tokens that are no file have one first token that is unexpected, or end too early.
+/// Tokens that are no file have one first token that is unexpected, or end too early: there is one, and no other.
 pub fn one_place()
-    ensures { (tokens : List Symbol) (left other : ℕ) → IsUnexpected tokens left → IsUnexpected tokens other
+    ensures some { (tokens : List Symbol) → ((f : SourceFile) → IsFile tokens f → ⊥)
+        → (left : ℕ) × IsUnexpected tokens left }
+    ensures only { (tokens : List Symbol) (left other : ℕ) → IsUnexpected tokens left → IsUnexpected tokens other
         → left ≡ other }
 {}

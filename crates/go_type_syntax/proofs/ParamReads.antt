@@ -1,5 +1,5 @@
 -- What the readers of parameters and signatures do.
-use Rattle.std.proofs.Common.{◌≡◌, ℕ, zero, suc, max, min, Bool, true, false, List, [], ◌∷◌, ◌++◌, map, refl, sym, subst, ◌∙◌}
+use Rattle.std.proofs.Common.{◌≡◌, ℕ, zero, suc, max, min, Bool, true, false, List, [], ◌∷◌, ◌++◌, map, refl, sym, subst, ◌∙◌, append_assoc}
 use Rattle.go_expr_syntax.specs.declared.symbols.Symbol.{Symbol}
 use Rattle.go_expr_syntax.specs.declared.symbols.Symbol.TheVariants as t
 use Rattle.go_expr_syntax.specs.declared.symbols.Ident.{Ident}
@@ -7,17 +7,17 @@ use Rattle.go_type_syntax.specs.declared.params.Param.{Param}
 use Rattle.go_type_syntax.specs.declared.tree.ParamExpr.{ParamExpr}
 use Rattle.go_type_syntax.specs.declared.tree.SigExpr.{SigExpr}
 use Rattle.go_type_syntax.specs.declared.tree.TypeExpr.{TypeExpr}
-use Rattle.go_expr_syntax.specs.Reading.{Reply, ◌>>=◌, unexpected, too_deep, past, choose, peek, starts, begins_type, is_comma, is_ellipsis, is_open_paren, is_open_bracket, start_of, placed, Fit, with_fit}
-use Rattle.go_expr_syntax.specs.Names.{plain, IsNames, one, more, ident_at, names_at}
+use Rattle.go_expr_syntax.specs.Reading.{Reply, ◌>>=◌, unexpected, too_deep, past, choose, peek, starts, begins_type, is_comma, is_ellipsis, is_open_paren, is_open_bracket, symbol_start, start_of, placed, Fit, with_fit}
+use Rattle.go_expr_syntax.specs.Names.{plain, selected, IsNames, one, more, ident_at, names_at}
 use Rattle.go_type_syntax.specs.Grammar as g
-use Rattle.go_type_syntax.specs.Grammar.{named, param, signature, IsType, IsParam, IsParams}
+use Rattle.go_type_syntax.specs.Grammar.{instance, named, param, signature, IsType, IsParam, IsParams}
 use Rattle.go_type_syntax.specs.Params.{item, params, param_type, type_param, unnamed_param, lone_param, more_params, first_param, named_param, param_at, params_row, params_end, bare, after_bare, types_by, names_by, named_by, array_or_instance, name_or_type, after_ident, params_from, result_list, result_type, no_results, results_by, sig_by, sig_at}
 use Rattle.go_expr_syntax.specs.Reading.{shows_types, shows_type}
 use Rattle.go_expr_syntax.proofs.Viable.{next_is, ends_so, ReadsAt, Sample, Behind, Past, After, done_reads, refuse_next, refuse_end, like_reads, as_reads, cons_reads, choose_reads, peek_reads, stuck_reads, deep_reads, bind_reads, value_reads, only_reads, starts_same}
-use Rattle.go_expr_syntax.proofs.EitherReads.{either_reads}
+use Rattle.go_expr_syntax.proofs.EitherReads.{either_on}
 use Rattle.go_expr_syntax.proofs.Marks.{comma, ellipsis, open_paren, close_paren}
 use Rattle.go_expr_syntax.proofs.NameReads.{IsIdent, any_ident, ident_reads, names_reads, through_value}
-use Rattle.go_type_syntax.proofs.Standing.{Begun, NamedAt, TypeAt, ParamAt, ParamsAt, SigAt, Placed, name_stands, no_type_here, no_type_of, no_param, placed_reads}
+use Rattle.go_type_syntax.proofs.Standing.{Begun, type_begun_by, dotted_stands, applied_stands, NamedAt, TypeAt, ParamAt, ParamsAt, SigAt, Placed, name_stands, no_type_here, no_type_of, no_param, placed_reads}
 use Rattle.go_expr_syntax.proofs.Rows.{IsSeries, series_reads, end_reads}
 
 -- what reads the types inside
@@ -163,6 +163,51 @@ some_bare v names = record {
   stands = λ tail ws b. let q = bares_types v names (t.CloseParen 0 ∷ tail) ws [] tail b (0, g.no_param false v 0 tail) in (false, q.0, q.1);
 }
 
+-- what may follow a token that shows that the identifiers are types
+typed_by : (v : Bool) (names : List Ident) (k : Symbol) → begins_type k ≡ true → Sample (Behind k (FromAt v names))
+typed_by v names k e =
+    let o = type_begun_by k e in
+    record {
+      tokens = o.tokens ++ t.CloseParen 0 ∷ [];
+      made = (map bare names ++ param [] false o.made.0 (symbol_start k) ∷ [], 0);
+      stands = λ tail. rw append_assoc (λ ws b.
+          let w = o.stands (t.CloseParen 0 ∷ tail) in
+          let us = k ∷ (o.tokens ++ t.CloseParen 0 ∷ tail) in
+          let x = param [] false o.made.0 (symbol_start k) in
+          let q = bares_types v names us ws (x ∷ []) tail b (w.0, g.last_param false v false w.0 0 us x tail (g.unnamed v w.0 us o.made.0 (t.CloseParen 0 ∷ tail) w.1)) in (false, q.0, q.1));
+    }
+
+closed_by : (v : Bool) (names : List Ident) (c : ℕ) → Sample (Behind (t.CloseParen c) (FromAt v names))
+closed_by v names c = record {
+  tokens = [];
+  made = (map bare names ++ [], 0);
+  stands = λ tail ws b. let q = bares_types v names (t.CloseParen c ∷ tail) ws [] tail b (0, g.no_param false v c tail) in (false, q.0, q.1);
+}
+
+dots_by : (names : List Ident) (at : ℕ) → Sample (Behind (t.Ellipsis at) (FromAt true names))
+dots_by names at = record {
+  tokens = t.Ident any_ident ∷ t.CloseParen 0 ∷ [];
+  made = (map bare names ++ param [] true (named (plain any_ident)) at ∷ [], 0);
+  stands = λ tail ws b.
+      let us = t.Ellipsis at ∷ t.Ident any_ident ∷ t.CloseParen 0 ∷ tail in
+      let x = param [] true (named (plain any_ident)) at in
+      let q = bares_types true names us ws (x ∷ []) tail b (1, g.last_param false true true 1 0 us x tail (g.unnamed_rest 1 at (t.Ident any_ident ∷ t.CloseParen 0 ∷ tail) (named (plain any_ident)) (t.CloseParen 0 ∷ tail) (name_stands any_ident (t.CloseParen 0 ∷ tail)))) in
+      (false, q.0, q.1);
+}
+
+listed_false : (names : List Ident) (k : Symbol) → shows_types false k ≡ true → Sample (Behind k (FromAt false names))
+listed_false names (t.CloseParen c) e = closed_by false names c
+listed_false names k e = typed_by false names k e
+
+listed_true : (names : List Ident) (k : Symbol) → shows_types true k ≡ true → Sample (Behind k (FromAt true names))
+listed_true names (t.CloseParen c) e = closed_by true names c
+listed_true names (t.Ellipsis at) e = dots_by names at
+listed_true names k e = typed_by true names k e
+
+listed_by : (v : Bool) (names : List Ident) (k : Symbol) → shows_types v k ≡ true → Sample (Behind k (FromAt v names))
+listed_by true names k e = listed_true names k e
+listed_by false names k e = listed_false names k e
+
 bare_row : (v : Bool) (n k : ℕ) (inner : List Symbol → Reply (Fit TypeExpr)) → ReadsTypes inner → (names : List Ident) (ts : List Symbol)
     → ReadsAt (FromAt v names) (λ us. with_fit (map bare names, k) (params_row false v n inner us)) ts (with_fit (map bare names, k) (params_row false v n inner ts))
 bare_row v n k inner h names ts =
@@ -171,7 +216,7 @@ bare_row v n k inner h names ts =
 
 after_reads : (v : Bool) (n : ℕ) (inner : List Symbol → Reply (Fit TypeExpr)) → ReadsTypes inner → (names : List Ident) (ts : List Symbol) → ReadsAt (FromAt v names) (after_bare v n inner names) ts (after_bare v n inner names ts)
 after_reads v n inner h [] ts = bare_row v n n inner h [] ts
-after_reads v zero inner h (i ∷ names) ts = peek_reads (FromAt v (i ∷ names)) (shows_types v) too_deep unexpected ts (λ s. deep_reads (FromAt v (i ∷ names)) ts (some_bare v (i ∷ names))) (λ s. stuck_reads (FromAt v (i ∷ names)) ts (some_bare v (i ∷ names)))
+after_reads v zero inner h (i ∷ names) ts = peek_reads (FromAt v (i ∷ names)) (shows_types v) too_deep unexpected ts (λ s. deep_reads (FromAt v (i ∷ names)) (shows_types v) ts (some_bare v (i ∷ names)) (listed_by v (i ∷ names)) s) (λ s. stuck_reads (FromAt v (i ∷ names)) ts (some_bare v (i ∷ names)))
 after_reads v (suc n) inner h (i ∷ names) ts = bare_row v (suc n) n inner h (i ∷ names) ts
 
 -- after one more identifier
@@ -184,14 +229,42 @@ ends_types : (v : Bool) (names : List Ident) (i : Ident) (m : ℕ) (ty : TypeExp
 ends_types v names i m ty us ws c tail b w =
     bares_types v names (t.Ident i ∷ us) ws (param [] false ty i.start ∷ []) tail b (m, g.last_param false v false m c (t.Ident i ∷ us) (param [] false ty i.start) tail (g.unnamed v m (t.Ident i ∷ us) ty (t.CloseParen c ∷ tail) w))
 
-types_reads : (v : Bool) (n : ℕ) (inner : List Symbol → Reply (Fit TypeExpr)) → ReadsTypes inner → Begun n inner → (names : List Ident) (i : Ident) (ts : List Symbol) → ReadsAt (OpenAt v names i) (types_by v n inner names i) ts (types_by v n inner names i ts)
-types_reads v zero inner h d names i ts =
-    deep_reads (OpenAt v names i) ts (record {
+-- what may follow a token that shows that the identifier is a type
+type_shown : (v : Bool) (names : List Ident) (i : Ident) (k : Symbol) → shows_type k ≡ true → Sample (Behind k (OpenAt v names i))
+type_shown v names i (t.CloseParen c) e = record {
+  tokens = [];
+  made = (map bare names ++ param [] false (named (plain i)) i.start ∷ [], 0);
+  stands = λ tail ws b. let q = ends_types v names i 1 (named (plain i)) (t.CloseParen c ∷ tail) ws c tail b (name_stands i (t.CloseParen c ∷ tail)) in (false, q.0, q.1);
+}
+type_shown v names i (t.Dot d) e = record {
+  tokens = t.Ident any_ident ∷ t.CloseParen 0 ∷ [];
+  made = (map bare names ++ param [] false (named (selected i any_ident)) i.start ∷ [], 0);
+  stands = λ tail ws b.
+      let us = t.Dot d ∷ t.Ident any_ident ∷ t.CloseParen 0 ∷ tail in
+      let q = ends_types v names i 1 (named (selected i any_ident)) us ws 0 tail b (g.name 1 (t.Ident i ∷ us) (named (selected i any_ident)) (t.CloseParen 0 ∷ tail) (dotted_stands i d (t.CloseParen 0 ∷ tail))) in (false, q.0, q.1);
+}
+type_shown v names i _ e = absurd cc
+
+type_applied : (v : Bool) (names : List Ident) (i : Ident) (k : Symbol) → is_open_bracket k ≡ true → Sample (Behind k (OpenAt v names i))
+type_applied v names i (t.OpenBracket o) e = record {
+  tokens = t.Ident any_ident ∷ t.CloseBracket 0 ∷ t.CloseParen 0 ∷ [];
+  made = (map bare names ++ param [] false (instance (plain i) (named (plain any_ident) ∷ [])) i.start ∷ [], 0);
+  stands = λ tail ws b.
+      let us = t.OpenBracket o ∷ t.Ident any_ident ∷ t.CloseBracket 0 ∷ t.CloseParen 0 ∷ tail in
+      let ty = instance (plain i) (named (plain any_ident) ∷ []) in
+      let q = ends_types v names i 2 ty us ws 0 tail b (g.name 2 (t.Ident i ∷ us) ty (t.CloseParen 0 ∷ tail) (applied_stands i o (t.CloseParen 0 ∷ tail))) in (false, q.0, q.1);
+}
+type_applied v names i _ e = absurd cc
+
+types_reads : (v : Bool) (n : ℕ) (inner : List Symbol → Reply (Fit TypeExpr)) → ReadsTypes inner → Begun n inner → (names : List Ident) (i : Ident) (is : Symbol → Bool) (ts : List Symbol) → starts is ts ≡ true → ((k : Symbol) → is k ≡ true → Sample (Behind k (OpenAt v names i)))
+    → ReadsAt (OpenAt v names i) (types_by v n inner names i) ts (types_by v n inner names i ts)
+types_reads v zero inner h d names i is ts e next =
+    deep_reads (OpenAt v names i) is ts (record {
       tokens = t.CloseParen 0 ∷ [];
       made = (map bare names ++ param [] false (named (plain i)) i.start ∷ [], 0);
       stands = λ tail ws b. let q = ends_types v names i 1 (named (plain i)) (t.CloseParen 0 ∷ tail) ws 0 tail b (name_stands i (t.CloseParen 0 ∷ tail)) in (false, q.0, q.1);
-    })
-types_reads v (suc n) inner h d names i ts =
+    }) next e
+types_reads v (suc n) inner h d names i is ts e next =
     bind_reads (Behind (t.Ident i) NamedAt) (OpenAt v names i) (λ r. inner (t.Ident i ∷ r)) (λ ty us. with_fit (map bare names, n) (params_end false v (suc n) inner (item [] false ty i.start) us)) ts
     (λ ty. record {
       tokens = t.CloseParen 0 ∷ [];
@@ -204,7 +277,7 @@ types_reads v (suc n) inner h d names i ts =
     let p = q (t.Ident i ∷ us') (w.0, g.unnamed v w.0 (t.Ident i ∷ us') ty.0 vs (g.name w.0 (t.Ident i ∷ us') ty.0 vs w.1)) in
     let r = bares_types v names (t.Ident i ∷ us') ws xs.0 rest b p in (false, r.0, r.1))
     (params_end false v (suc n) inner (item [] false ty i.start) us) (rest_reads false v (suc n) inner h (item [] false ty i.start) us))
-    (inner (t.Ident i ∷ ts)) (d.ident i ts (λ (e : suc n ≡ 0). absurd cc))
+    (inner (t.Ident i ∷ ts)) (d.ident i ts (λ (e' : suc n ≡ 0). absurd cc))
 
 -- a parameter whose last name is i
 abbrev NamesAt : Bool → List Ident → Ident → List Symbol → Param → List Symbol → Type 0
@@ -230,9 +303,10 @@ named_by_reads v n inner h names i ts =
 
 ident_after : (v : Bool) (n : ℕ) (inner : List Symbol → Reply (Fit TypeExpr)) → ReadsTypes inner → Begun n inner → (names : List Ident) (i : Ident) (ts : List Symbol) → ReadsAt (OpenAt v names i) (after_ident v n inner names i) ts (after_ident v n inner names i ts)
 ident_after v n inner h d names i ts =
-    peek_reads (OpenAt v names i) shows_type (types_by v n inner names i) (name_or_type v n inner names i) ts (λ s. types_reads v n inner h d names i ts)
+    peek_reads (OpenAt v names i) shows_type (types_by v n inner names i) (name_or_type v n inner names i) ts (λ s. types_reads v n inner h d names i shows_type ts s (type_shown v names i))
     (λ s. peek_reads (OpenAt v names i) is_open_bracket (array_or_instance v n inner names i) (named_by v n inner names i) ts
-    (λ s'. either_reads (OpenAt v names i) (named_by v n inner names i) (types_by v n inner names i) ts (named_by_reads v n inner h names i ts) (λ us. types_reads v n inner h d names i us))
+    (λ s'. either_on (OpenAt v names i) (OpenAt v names i) (named_by v n inner names i) (types_by v n inner names i) ts (named_by_reads v n inner h names i ts)
+    (λ us e. types_reads v n inner h d names i is_open_bracket us (sym (starts_same is_open_bracket ts us e) ∙ s') (type_applied v names i)))
     (λ s'. named_by_reads v n inner h names i ts))
 
 -- after an identifier

@@ -1,8 +1,10 @@
 -- What stands somewhere, of any number of nodes, and the least that does.
-use Rattle.std.proofs.Common.{◌≡◌, ℕ, Bool, List, [], ◌∷◌, ◌++◌, Ok, Err, refl, sym, ap, ◌∙◌, append_assoc}
+use Rattle.std.proofs.Common.{◌≡◌, ℕ, Bool, true, false, List, [], ◌∷◌, ◌++◌, Ok, Err, refl, sym, ap, ◌∙◌, append_assoc}
 use Rattle.go_expr_syntax.specs.declared.symbols.Symbol.{Symbol}
 use Rattle.go_expr_syntax.specs.declared.symbols.Symbol.TheVariants as t
 use Rattle.go_expr_syntax.specs.declared.symbols.Ident.{Ident}
+use Rattle.go_expr_syntax.specs.declared.faults.Fault.{Fault}
+use Rattle.go_expr_syntax.specs.declared.faults.Fault.TheVariants.{Unexpected, Deep, DotImport, Call}
 use Rattle.go_type_syntax.specs.declared.params.Param.{Param}
 use Rattle.go_type_syntax.specs.declared.tree.FieldExpr.{FieldExpr}
 use Rattle.go_type_syntax.specs.declared.tree.ParamExpr.{ParamExpr}
@@ -10,11 +12,12 @@ use Rattle.go_type_syntax.specs.declared.tree.SigExpr.{SigExpr}
 use Rattle.go_type_syntax.specs.declared.tree.TermExpr.{TermExpr}
 use Rattle.go_type_syntax.specs.declared.tree.ElemExpr.{ElemExpr}
 use Rattle.go_type_syntax.specs.declared.tree.TypeExpr.{TypeExpr}
-use Rattle.go_expr_syntax.specs.Reading.{Reply, ◌>>=◌, start_of, placed, Fit}
-use Rattle.go_expr_syntax.specs.Names.{plain, own, none}
+use Rattle.go_type_syntax.specs.declared.tree.TypeExpr.TheVariants as y
+use Rattle.go_expr_syntax.specs.Reading.{Reply, ◌>>=◌, begins_type, start_of, placed, Fit}
+use Rattle.go_expr_syntax.specs.Names.{plain, selected, own, of_package, none}
 use Rattle.go_type_syntax.specs.Grammar as g
 use Rattle.go_type_syntax.specs.Grammar.{instance, named, field, param, signature, IsType, IsNamed, IsArgs, IsTypes, IsField, IsFields, IsParam, IsParams, IsSig, IsTerm, IsTerms, IsUnion, IsElem, IsElems}
-use Rattle.go_expr_syntax.proofs.Viable.{ReadsAt, Sample, Behind}
+use Rattle.go_expr_syntax.proofs.Viable.{ReadsAt, Sample, Behind, Goes}
 use Rattle.go_expr_syntax.proofs.NameReads.{any_ident, no_names, no_type_name}
 
 abbrev pub TypeAt : List Symbol → Fit TypeExpr → List Symbol → Type 0
@@ -67,6 +70,49 @@ name_stands i tail = g.name 1 (t.Ident i ∷ tail) (named (plain i)) tail (plain
 
 abbrev pub some_type : Sample TypeAt
 some_type = record { tokens = t.Ident any_ident ∷ []; made = (named (plain any_ident), 0); stands = λ tail. (1, name_stands any_ident tail) }
+
+-- behind a token with which a type begins
+pub type_begun_by : (k : Symbol) → begins_type k ≡ true → Sample (Behind k TypeAt)
+type_begun_by (t.Ident i) e = record { tokens = []; made = (named (plain i), 0); stands = λ tail. (1, name_stands i tail) }
+type_begun_by (t.OpenParen at) e = record {
+  tokens = t.Ident any_ident ∷ t.CloseParen 0 ∷ [];
+  made = (y.Paren (named (plain any_ident)) at, 0);
+  stands = λ tail. (2, g.paren 1 at 0 (t.Ident any_ident ∷ t.CloseParen 0 ∷ tail) (named (plain any_ident)) tail (name_stands any_ident (t.CloseParen 0 ∷ tail)));
+}
+type_begun_by (t.Star at) e = record { tokens = t.Ident any_ident ∷ []; made = (y.Pointer (named (plain any_ident)) at, 0); stands = λ tail. (2, g.pointer 1 at (t.Ident any_ident ∷ tail) (named (plain any_ident)) tail (name_stands any_ident tail)) }
+type_begun_by (t.OpenBracket at) e = record {
+  tokens = t.CloseBracket 0 ∷ t.Ident any_ident ∷ [];
+  made = (y.Slice (named (plain any_ident)) at, 0);
+  stands = λ tail. (2, g.slice 1 at 0 (t.Ident any_ident ∷ tail) (named (plain any_ident)) tail (name_stands any_ident tail));
+}
+type_begun_by (t.Map at) e = record {
+  tokens = t.OpenBracket 0 ∷ t.Ident any_ident ∷ t.CloseBracket 0 ∷ t.Ident any_ident ∷ [];
+  made = (y.MapOf (named (plain any_ident)) (named (plain any_ident)) at, 0);
+  stands = λ tail. (2, g.map_of 1 1 at 0 0 (t.Ident any_ident ∷ t.CloseBracket 0 ∷ t.Ident any_ident ∷ tail) (named (plain any_ident)) (t.Ident any_ident ∷ tail) (named (plain any_ident)) tail (name_stands any_ident (t.CloseBracket 0 ∷ t.Ident any_ident ∷ tail)) (name_stands any_ident tail));
+}
+type_begun_by (t.Chan at) e = record { tokens = t.Ident any_ident ∷ []; made = (y.Chan true true (named (plain any_ident)) at, 0); stands = λ tail. (2, g.both_ways 1 at (t.Ident any_ident ∷ tail) (named (plain any_ident)) tail refl (name_stands any_ident tail)) }
+type_begun_by (t.Arrow at) e = record {
+  tokens = t.Chan 0 ∷ t.Ident any_ident ∷ [];
+  made = (y.Chan true false (named (plain any_ident)) at, 0);
+  stands = λ tail. (2, g.receive_only 1 at 0 (t.Ident any_ident ∷ tail) (named (plain any_ident)) tail (name_stands any_ident tail));
+}
+type_begun_by (t.Struct at) e = record { tokens = t.OpenBrace 0 ∷ t.CloseBrace 0 ∷ []; made = (y.Struct [] at, 0); stands = λ tail. (1, g.struct 0 at 0 (t.CloseBrace 0 ∷ tail) [] tail (g.none 0 tail)) }
+type_begun_by (t.Func at) e = record {
+  tokens = t.OpenParen 0 ∷ t.CloseParen 0 ∷ [];
+  made = (y.Func (signature [] [] 0) at, 0);
+  stands = λ tail. (1, g.func 0 at (t.OpenParen 0 ∷ t.CloseParen 0 ∷ tail) (signature [] [] 0) tail (g.no_result true 0 0 (t.CloseParen 0 ∷ tail) [] tail (g.no_param true true 0 tail)));
+}
+type_begun_by (t.Interface at) e = record { tokens = t.OpenBrace 0 ∷ t.CloseBrace 0 ∷ []; made = (y.Interface [] at, 0); stands = λ tail. (1, g.interface 0 at 0 (t.CloseBrace 0 ∷ tail) [] tail (g.no_elem 0 tail)) }
+type_begun_by _ e = absurd cc
+
+-- the name of another package's type, after its first identifier, and one with an argument
+pub dotted_stands : (i : Ident) (d : ℕ) (tail : List Symbol) → IsNamed 1 (t.Ident i ∷ t.Dot d ∷ t.Ident any_ident ∷ tail) (named (selected i any_ident)) tail
+dotted_stands i d tail = g.by_name 0 (t.Ident i ∷ t.Dot d ∷ t.Ident any_ident ∷ tail) (selected i any_ident) tail [] tail (of_package i d any_ident tail) (g.no_args tail)
+
+pub applied_stands : (i : Ident) (o : ℕ) (tail : List Symbol) → IsNamed 2 (t.Ident i ∷ t.OpenBracket o ∷ t.Ident any_ident ∷ t.CloseBracket 0 ∷ tail) (instance (plain i) (named (plain any_ident) ∷ [])) tail
+applied_stands i o tail =
+    g.by_name 1 (t.Ident i ∷ t.OpenBracket o ∷ t.Ident any_ident ∷ t.CloseBracket 0 ∷ tail) (plain i) (t.OpenBracket o ∷ t.Ident any_ident ∷ t.CloseBracket 0 ∷ tail) (named (plain any_ident) ∷ []) tail (own i (t.OpenBracket o ∷ t.Ident any_ident ∷ t.CloseBracket 0 ∷ tail))
+    (g.some_args 1 o (t.Ident any_ident ∷ t.CloseBracket 0 ∷ tail) (named (plain any_ident) ∷ []) tail refl (g.last_type 1 0 (t.Ident any_ident ∷ t.CloseBracket 0 ∷ tail) (named (plain any_ident)) tail (name_stands any_ident (t.CloseBracket 0 ∷ tail))))
 
 abbrev pub some_field : Sample FieldAt
 some_field = record {
@@ -132,6 +178,22 @@ placed_as x r at = Ok ((x, at), r)
 abbrev place_by : {X : Type 0} → ℕ → Reply X → Reply (X × ℕ)
 place_by at reply = reply >>= λ x. Ok ((x.0, at), x.1)
 
+start_next : (front : List Symbol) (k : Symbol) (a b : List Symbol) → start_of (front ++ k ∷ a) ≡ start_of (front ++ k ∷ b)
+start_next [] k a b = refl
+start_next (j ∷ front) k a b = refl
+
+placed_goes : {X : Type 0} (F : List Symbol → X → List Symbol → Type 0) (front rest : List Symbol) (f : Fault) → Goes f F front rest → Goes f (Placed F) front rest
+placed_goes F front rest (Unexpected k) h = tt
+placed_goes F front rest (Deep k began) h = record {
+  next = h.next;
+  comes = h.comes;
+  beyond = h.beyond;
+  formed = (h.formed, start_of (front ++ h.next ∷ []));
+  goes = λ tail. (h.goes tail, start_next front h.next [] (h.beyond ++ tail));
+}
+placed_goes F front rest (DotImport k) h = tt
+placed_goes F front rest (Call k at) h = tt
+
 pub placed_reads : {X : Type 0} (F : List Symbol → X → List Symbol → Type 0) (p : List Symbol → Reply X) (ts : List Symbol) → ((z : X) (us : List Symbol) → F [] z us → ⊥)
     → (reply : Reply X) → ReadsAt F p ts reply → ReadsAt (Placed F) (placed p) ts (place_by (start_of ts) reply)
 placed_reads F p ts never (Ok z) h = record {
@@ -151,6 +213,7 @@ placed_reads F p ts never (Err f) h =
       more = h.more;
       made = (h.made, start_of ((h.front ++ h.more) ++ []));
       completes = λ tail. (h.completes tail, start_front F h.made (h.front ++ h.more) never whole [] tail ∙ ap start_of (append_assoc h.front h.more tail));
+      met = placed_goes F h.front h.rest f h.met;
     }
 
 -- what a reader of types does after a first token, where a node is left for the type

@@ -15,13 +15,13 @@ use Rattle.go_type_syntax.specs.Types.{with_type, paren_end, paren_by, array_ite
 use Rattle.go_expr_syntax.proofs.Viable.{ReadsAt, Behind, Past, After, done_reads, refuse_next, refuse_end, cons_reads, past_reads, choose_reads, peek_reads, stuck_reads, deep_reads, bind_reads, value_reads, only_reads, starts_same, from_start_reads, told_by_reads}
 use Rattle.go_expr_syntax.proofs.Marks.{arrow, chan, close_paren, open_bracket, close_bracket, open_brace}
 use Rattle.go_expr_syntax.proofs.NameReads.{any_ident}
-use Rattle.go_type_syntax.proofs.Standing.{name_stands, Begun, NamedAt, TypeAt, FieldAt, FieldsAt, ParamAt, SigAt, TermAt, ElemAt, ElemsAt, some_type, no_type_of, no_field, no_param, no_term, no_elem_here}
+use Rattle.go_type_syntax.proofs.Standing.{type_begun_by, name_stands, Begun, NamedAt, TypeAt, FieldAt, FieldsAt, ParamAt, SigAt, TermAt, ElemAt, ElemsAt, some_type, no_type_of, no_field, no_param, no_term, no_elem_here}
 use Rattle.go_type_syntax.proofs.ParamReads.{ReadsTypes, param_reads, sig_reads}
-use Rattle.go_type_syntax.proofs.ElemReads.{named_reads, name_reads, term_reads, elem_reads, elems_read}
+use Rattle.go_type_syntax.proofs.ElemReads.{ClosedElem, named_reads, name_reads, term_reads, elem_reads, elems_read}
 use Rattle.go_expr_syntax.proofs.OperandReads.{ExprAt}
 use Rattle.go_expr_syntax.proofs.ExprReads.{expr_reads}
-use Rattle.go_type_syntax.proofs.FieldReads.{field_reads, fields_read}
-use Rattle.go_expr_syntax.proofs.Rows.{Eats, eats_of}
+use Rattle.go_type_syntax.proofs.FieldReads.{ClosedField, field_reads, fields_read}
+use Rattle.go_expr_syntax.proofs.Rows.{Eats, eats_of, eats_on}
 
 paren_reads : (inner : List Symbol → Reply (Fit TypeExpr)) → ((us : List Symbol) → ReadsAt TypeAt inner us (inner us)) → (at : ℕ) (ts : List Symbol) → ReadsAt (Behind (t.OpenParen at) TypeAt) (paren_by inner at) ts (paren_by inner at ts)
 paren_reads inner h at ts =
@@ -142,7 +142,7 @@ type_step n inner lower h d l (t.Interface at ∷ ts) = cons_reads TypeAt (type_
 type_step n inner lower h d l (k ∷ ts) = refuse_next TypeAt (type_by n inner lower) k ts some_type (λ r. refl)
 
 no_type_reads : (ts : List Symbol) → ReadsAt TypeAt no_type ts (no_type ts)
-no_type_reads ts = peek_reads TypeAt begins_type too_deep unexpected ts (λ s. deep_reads TypeAt ts some_type) (λ s. stuck_reads TypeAt ts some_type)
+no_type_reads ts = peek_reads TypeAt begins_type too_deep unexpected ts (λ s. deep_reads TypeAt begins_type ts some_type type_begun_by s) (λ s. stuck_reads TypeAt ts some_type)
 
 pub record BothRead (n : ℕ) : Type 0 where
   pub here : ReadsTypes (type_at n)
@@ -176,7 +176,7 @@ lower_reads n ts = (both_read n).below ts
 -- ---- each item takes a token
 
 pub field_eats : (n : ℕ) → Eats (field_by n (type_at n))
-field_eats n = eats_of FieldAt (field_by n (type_at n)) (λ x us w. no_field w.0 x.0 us w.1) (field_reads n (type_at n) (type_reads n) (type_begun n))
+field_eats n = eats_on FieldAt ClosedField (field_by n (type_at n)) (λ x us w. no_field w.0 x.0 us w.1) (field_reads n (type_at n) (type_reads n) (type_begun n))
 
 pub param_eats : (w v : Bool) (n : ℕ) → Eats (param_at w v (type_at n))
 param_eats w v n = eats_of (ParamAt w v) (param_at w v (type_at n)) (no_param w v) (param_reads w v (type_at n) (type_reads n))
@@ -185,7 +185,7 @@ pub term_eats : (n : ℕ) → Eats (term_at (lower_at n))
 term_eats n = eats_of TermAt (term_at (lower_at n)) no_term (term_reads (lower_at n) (lower_reads n))
 
 pub elem_eats : (n : ℕ) → Eats (elem_at n (type_at n) (lower_at n))
-elem_eats n = eats_of ElemAt (elem_at n (type_at n) (lower_at n)) no_elem_here (elem_reads n (type_at n) (lower_at n) (type_reads n) (type_begun n) (lower_reads n))
+elem_eats n = eats_on ElemAt ClosedElem (elem_at n (type_at n) (lower_at n)) no_elem_here (elem_reads n (type_at n) (lower_at n) (type_reads n) (type_begun n) (lower_reads n))
 
 -- ---- with a node left or not
 
