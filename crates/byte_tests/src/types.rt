@@ -1,7 +1,7 @@
 //! The arena of shared nodes, and names that are exported.
 use code_tables::Basic;
-use std::test::Fail;
 use environments::is_exported;
+use std::test::Fail;
 use type_terms::{Arena, ArenaError, Node};
 
 #[test]
