@@ -35,9 +35,9 @@ any_pushed p (x ∷ xs) q h = elim (or_cases (p x) (list_any p (xs ++ q ∷ []))
 ]
 
 -- what is met on the way: names of the environment, each once
-record AreMet (names met : List QName) : Type 0 where
-  distinct : IsDistinct same_name met
-  among : (q : QName) → list_any (same_name q) met ≡ true → list_any (same_name q) names ≡ true
+pub record AreMet (names met : List QName) : Type 0 where
+  pub distinct : IsDistinct same_name met
+  pub among : (q : QName) → list_any (same_name q) met ≡ true → list_any (same_name q) names ≡ true
 
 module _ (entries : Entries) where
   led_agrees : (more other : List QName → Tree → Result Tree SetFault) (met : List QName) (type : Tree)
@@ -65,14 +65,14 @@ module _ (entries : Entries) where
       by false e (Ok right) f h = each head right e f h
 
 module _ (entries : Entries) (names : List QName) (are : AreNames entries names) where
-  alias_known : (head : Applied) (right : Tree) → alias_right entries head ≡ Ok right → list_any (same_name head.name) names ≡ true
+  pub alias_known : (head : Applied) (right : Tree) → alias_right entries head ≡ Ok right → list_any (same_name head.name) names ≡ true
   alias_known head right is = by (entries head.name) refl is
     where
       by : (o : Option Entry) → entries head.name ≡ o → then (known o head.name) (alias_side head) ≡ Ok right → list_any (same_name head.name) names ≡ true
       by (Some entry) e h = are head.name entry e
       by None e h = absurd cc
 
-  one_more : (met : List QName) (q : QName) → AreMet names met → list_any (same_name q) met ≡ false → list_any (same_name q) names ≡ true → AreMet names (met ++ q ∷ [])
+  pub one_more : (met : List QName) (q : QName) → AreMet names met → list_any (same_name q) met ≡ false → list_any (same_name q) names ≡ true → AreMet names (met ++ q ∷ [])
   one_more met q was new there = record {
     distinct = IsDistinct-push qname_laws.laws-law met q was.distinct new;
     among = λ other held. elim (any_pushed (same_name other) met q held) [
@@ -103,7 +103,7 @@ module _ (entries : Entries) (names : List QName) (are : AreNames entries names)
       led_settled entries (expanded_from entries n) met type found
       (λ head right new is h. settled n (met ++ head.name ∷ []) right found (one_more met head.name was new (alias_known head right is)) (omega (arith, length-append met (head.name ∷ []))) h) (alias_use type) refl
 
-  none_met : AreMet names []
+  pub none_met : AreMet names []
   unfolding IsDistinct
   none_met = record { distinct = tt; among = λ q held. absurd (true≢false (sym held)) }
 

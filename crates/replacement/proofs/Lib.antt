@@ -5,3 +5,7 @@ mod SearchLemmas
 mod MoveLemmas
 mod MovingLemmas
 mod ExpansionLemmas
+mod KeptLemmas
+mod ExpandingLemmas
+mod ParameterLemmas
+mod HeadLemmas

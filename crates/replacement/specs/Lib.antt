@@ -1,3 +1,4 @@
 pub mod Substitution
 pub mod Moves
 pub mod Expansion
+pub mod Calls

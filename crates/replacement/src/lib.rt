@@ -1,6 +1,7 @@
 //! Type parameters replaced by types.
 #![tactic(auto)]
 
+mod expanding;
 mod faults;
 mod laws;
 mod nodes;
@@ -8,6 +9,7 @@ mod parts;
 mod reaching;
 mod substituting;
 
+pub use expanding::expand;
 pub use faults::SetFault;
 pub use laws::{
     a_replacement_depends_on_its_parameters, a_replacement_goes_by_levels,
