@@ -1,0 +1,5 @@
+mod BasicLemmas
+mod WayLemmas
+mod KeptLemmas
+mod SideLemmas
+mod OnTheWay
