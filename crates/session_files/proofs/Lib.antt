@@ -1,0 +1,6 @@
+mod Bytes
+mod OpenFiles
+mod Listed
+mod Standing
+mod ComingDown
+mod Outcomes

@@ -1,0 +1,4 @@
+pub mod FileSections
+pub mod Sessions
+pub mod Names
+pub mod Answers
