@@ -9,3 +9,4 @@ mod KeptLemmas
 mod ExpandingLemmas
 mod ParameterLemmas
 mod HeadLemmas
+mod UnderlyingLemmas

@@ -1,7 +1,8 @@
 -- Type parameters and the sides of declarations that have them.
-use Rattle.std.proofs.Common.{◌≡◌, ℕ, ◌+◌, zero, suc, Bool, List, [], ◌∷◌, ◌++◌, length, map, take, slice_get, Option, Some, None, Ok, refl, ap, sym, subst, ◌∙◌, arith}
+use Rattle.std.proofs.Common.{◌≡◌, ℕ, ◌+◌, ◌<◌, zero, suc, Bool, List, [], ◌∷◌, ◌++◌, length, map, take, slice_get, Option, Some, None, Ok, Err, true, cond, refl, ap, sym, subst, ◌∙◌, arith}
 use Rattle.std.specs.Prelude.{Result}
-use Rattle.std.specs.List.{All, AllByRecursion}
+use Rattle.std.specs.List.{All, AllByRecursion, flat_map}
+use Rattle.std.proofs.lemmas.Bool.{eq-eqb}
 use Rattle.std.proofs.lemmas.List.{map-append}
 use Rattle.std.proofs.lemmas.List.Elements.{recursion_from_All}
 use Rattle.go_values.specs.declared.qualified.QName.{QName}
@@ -9,16 +10,19 @@ use Rattle.go_values.specs.declared.positions.Pos.{Pos}
 use Rattle.environments.specs.Environments.{Entry, declared, damaged}
 use Rattle.type_terms.specs.declared.descriptors.Node.{Node}
 use Rattle.type_terms.specs.declared.declarations.DeclNode.{DeclNode}
-use Rattle.type_terms.specs.declared.declarations.DeclNode.TheVariants.{Alias}
+use Rattle.type_terms.specs.declared.declarations.DeclNode.TheVariants.{Alias, Defined}
+use Rattle.type_terms.specs.declared.declarations.Method.{Method}
 use Rattle.type_terms.specs.Arenas.{Contents, AllBelow, Extends}
 use Rattle.type_terms.specs.Denotation.{tree}
 use Rattle.type_terms.specs.Extensions.{extends_tree}
-use Rattle.type_terms.specs.Declarations.{Decl, decl_of, renamed_of}
+use Rattle.type_terms.specs.Declarations.{Decl, decl_of, decl_nodes, receiver_types, receiver_shape}
+use Rattle.type_terms.specs.Replaced.{all_left, all_right}
 use Rattle.type_terms.specs.DeclarationRules.{IsTypeParameter, IsProperDecl}
 use Rattle.type_terms.specs.Trees.{Tree, parameter}
 use Rattle.replacement.specs.declared.faults.SetFault.{SetFault}
-use Rattle.replacement.specs.Expansion.{Entries, known, then, parameter_names, put_each, alias_side, alias_right}
-use Rattle.replacement.specs.Calls.{parameter_name, applied, Gives}
+use Rattle.replacement.specs.Expansion.{Entries, Applied, known, then, parameter_names, put_each, wrong_number}
+use Rattle.replacement.specs.Substitution.{substituted}
+use Rattle.replacement.specs.Calls.{parameter_name, applied}
 
 take_next : {X : Type 0} (xs : List X) (k : ℕ) (x : X) → slice_get xs k ≡ Some x → take (suc k) xs ≡ take k xs ++ x ∷ []
 take_next [] k x is = absurd cc
@@ -70,27 +74,45 @@ known_is (Some (declared own)) q decl is = let e : own ≡ decl = cc in ap (λ d
 known_is (Some (damaged fault read)) q decl is = absurd cc
 known_is None q decl is = absurd cc
 
-module _ (entries : Entries) (q : QName) (nodes : List Node) (decl : DeclNode) (pos : Pos) (tparams : List ℕ) (right : ℕ)
-    (is : known (entries q) q ≡ Ok (decl_of nodes decl)) (node : decl ≡ Alias pos tparams right) where
-  denoted : decl_of nodes decl ≡ renamed_of pos (map (tree nodes) tparams) (tree nodes right)
-  denoted = ap (decl_of nodes) node
+-- A side with as many arguments as there are parameters, which are some.
+pub put_is : (head : Applied) (tparams args : List Tree) (right : Tree) → length args ≡ length tparams → (length tparams ≡ 0 → ⊥)
+    → put_each head tparams args right ≡ Ok (substituted (parameter_names tparams) args right)
+put_is head [] args right same some = absurd (some refl)
+put_is head (type ∷ types) [] right same some = absurd (omega (arith, same))
+put_is head (type ∷ types) (arg ∷ args) right same some =
+    ap (λ b. cond b (Ok (substituted (parameter_names (type ∷ types)) (arg ∷ args) right)) (Err (wrong_number head (type ∷ types))))
+    (eq-eqb (length types) (length args) (omega (arith, same)))
 
-  -- the type parameters of an alias are some
-  pub alias_parameters : ((own : Decl) → entries q ≡ Some (declared own) → IsProperDecl own)
+-- what was found of a declaration that has type parameters and a right side
+module _ (entries : Entries) (q : QName) (nodes : List Node) (decl : DeclNode) (tparams : List ℕ) (right : ℕ)
+    (is : known (entries q) q ≡ Ok (decl_of nodes decl)) where
+  proper_found : ((own : Decl) → entries q ≡ Some (declared own) → IsProperDecl own) → IsProperDecl (decl_of nodes decl)
+  proper_found proper = proper (decl_of nodes decl) (known_is (entries q) q (decl_of nodes decl) is)
+
+  -- the type parameters are some
+  pub alias_parameters : (pos : Pos) → decl ≡ Alias pos tparams right → ((own : Decl) → entries q ≡ Some (declared own) → IsProperDecl own)
       → All IsTypeParameter (map (tree nodes) tparams)
-  alias_parameters proper =
-      let stands = known_is (entries q) q (decl_of nodes decl) is ∙ ap (λ d. Some (declared d)) denoted in
-      (proper (renamed_of pos (map (tree nodes) tparams) (tree nodes right)) stands).form.0
+  alias_parameters pos node proper = (subst (λ d. IsProperDecl (decl_of nodes d)) node (proper_found proper)).form.0
 
-  pub alias_put : (old now : Contents) (full : Option Bool) (args : List ℕ) (result : Result ℕ SetFault) (arena : Contents)
-      → now.nodes ≡ nodes → Extends old now → AllBelow (length old.nodes) args
-      → Gives arena full result (put_each (applied nodes q args) (map (tree nodes) tparams) (map (tree nodes) args) (tree nodes right))
-      → Gives arena full result (alias_right entries (applied old.nodes q args))
-  alias_put old now full args result arena same grown below gives =
-      let stay : map (tree nodes) args ≡ map (tree old.nodes) args = ap (λ n. map (tree n) args) (sym same) ∙ trees_stay old now grown args below in
-      let whole : alias_right entries (applied old.nodes q args) ≡ put_each (applied old.nodes q args) (map (tree nodes) tparams) (map (tree old.nodes) args) (tree nodes right) =
-      ap (λ r. then r (alias_side (applied old.nodes q args))) (is ∙ ap Ok denoted) in
-      let moved : put_each (applied nodes q args) (map (tree nodes) tparams) (map (tree nodes) args) (tree nodes right)
-      ≡ put_each (applied old.nodes q args) (map (tree nodes) tparams) (map (tree old.nodes) args) (tree nodes right) =
-      ap (λ trees. put_each (record { name = q; args = trees }) (map (tree nodes) tparams) trees (tree nodes right)) stay in
-      subst (Gives arena full result) (moved ∙ sym whole) gives
+  pub defined_parameters : (pos : Pos) (own : List Method) → decl ≡ Defined pos tparams right own → ((own : Decl) → entries q ≡ Some (declared own) → IsProperDecl own)
+      → All IsTypeParameter (map (tree nodes) tparams)
+  defined_parameters pos own node proper = (subst (λ d. IsProperDecl (decl_of nodes d)) node (proper_found proper)).form.0
+
+  -- the side is what the call puts together
+  module _ (side : Applied → Decl → Result Tree SetFault)
+      (puts : (head : Applied) → side head (decl_of nodes decl) ≡ put_each head (map (tree nodes) tparams) head.args (tree nodes right))
+      (old now : Contents) (same : now.nodes ≡ nodes) (grown : Extends old now) (args : List ℕ) (below : AllBelow (length old.nodes) args) where
+    pub side_is : put_each (applied nodes q args) (map (tree nodes) tparams) (map (tree nodes) args) (tree nodes right)
+        ≡ then (known (entries q) q) (side (applied old.nodes q args))
+    side_is =
+        let stay : map (tree nodes) args ≡ map (tree old.nodes) args = ap (λ n. map (tree n) args) (sym same) ∙ trees_stay old now grown args below in
+        ap (λ trees. put_each (record { name = q; args = trees }) (map (tree nodes) tparams) trees (tree nodes right)) stay
+        ∙ sym (puts (applied old.nodes q args)) ∙ sym (ap (λ r. then r (side (applied old.nodes q args))) is)
+
+-- the nodes of a defined type's declaration stand in the arena
+pub defined_below : (bound : ℕ) (decl : DeclNode) (pos : Pos) (tparams : List ℕ) (right : ℕ) (own : List Method) → decl ≡ Defined pos tparams right own
+    → AllBelow bound (decl_nodes decl) → AllBelow bound tparams × (right < bound)
+defined_below bound decl pos tparams right own node below =
+    let each = subst (λ d. AllBelow bound (decl_nodes d)) node below in
+    let rest = right ∷ flat_map receiver_types (map receiver_shape own) in
+    (all_left (λ n. n < bound) tparams rest each, (all_right (λ n. n < bound) tparams rest each).0)

@@ -1,21 +1,23 @@
 -- What calls that ask an environment keep of it and of an arena, and why they stop.
 use Rattle.std.specs.Prelude.{◌≡◌, ◌<◌, ◌⊎◌, ℕ, Bool, true, false, not, List, [], ◌∷◌, ◌++◌, length, map}
-use Rattle.std.specs.Prelude.{Option, Some, None, Result, Ok, Err}
+use Rattle.std.specs.Prelude.{Option, Some, None, Result, Ok, Err, IsSomeAnd, IsOkAnd}
 use Rattle.std.specs.List.{Contains, list_any}
 use Rattle.go_values.specs.declared.qualified.QName.{QName}
 use Rattle.environments.specs.declared.declaring.EnvError.TheVariants.{TableFull, Nodes as EnvNodes}
 use Rattle.environments.specs.declared.declaring.EnvError.TheVariants.{OutOfMemory as EnvMemory}
 use Rattle.environments.specs.declared.given.Given.{Given}
-use Rattle.environments.specs.Environments.{given_decl}
+use Rattle.environments.specs.Environments.{Entry, entry_types, given_decl}
 use Rattle.type_terms.specs.declared.descriptors.Node.{Node}
-use Rattle.type_terms.specs.Trees.{Text, Tree, parameter, alias}
+use Rattle.type_terms.specs.Trees.{Text, Tree, named, parameter, alias}
 use Rattle.type_terms.specs.TreeEquality.{same_name}
 use Rattle.type_terms.specs.Arenas.{Contents, AllBelow, Extends}
 use Rattle.type_terms.specs.Declarations.{Decl, decl_nodes, decl_of}
 use Rattle.type_terms.specs.Denotation.{tree}
 use Rattle.replacement.specs.declared.faults.SetFault.{SetFault}
 use Rattle.replacement.specs.declared.faults.SetFault.TheVariants.{Env, Nodes, OutOfMemory}
-use Rattle.replacement.specs.Expansion.{Entries, Applied, alias_use, alias_right, led}
+use Rattle.replacement.specs.Expansion.{Entries, Applied, alias_use, defined_use, alias_right, defined_right, led}
+use Rattle.replacement.specs.Expansion.{expanded}
+use Rattle.replacement.specs.OpenedTypes.{AddsAmong, OutgrowsAmong}
 
 -- what an environment means, where an arena has these nodes, and the names that it was asked for
 pub record World : Type 0 where
@@ -35,39 +37,61 @@ AsksAmong may None None = Unit {0}
 AsksAmong may (Some old) None = ⊥
 AsksAmong may None (Some new) = ⊥
 
--- What a call keeps: all that an environment means, and each node of the arena. It asks for such names alone.
-pub record Kept (may : QName → Type 0) (old new : World) (before after : Contents) : Type 0 where
+-- What a call keeps: all that an environment means, and each node of the arena. It asks for such names alone, and adds
+-- what stands in such types alone.
+pub record Kept (may : QName → Type 0) (opens : Tree → Type 0) (old new : World) (before after : Contents) : Type 0
+    where
   pub entries : new.entries ≡ old.entries
   pub names : new.names ≡ old.names
   pub packages : new.packages ≡ old.packages
   pub asked : AsksAmong may old.asked new.asked
   pub extends : Extends before after
+  pub adds : AddsAmong opens before after
 
--- Why a call stopped, where the arena and the flag at exit are these. Want of memory or of room says nothing of types;
--- every other fault has its cause.
-abbrev pub Stops : Contents → Option Bool → SetFault → Type 0 → Type 0
-Stops arena full OutOfMemory cause = Unit {0}
-Stops arena full Nodes cause = Unit {0}
-Stops arena full (Env EnvMemory) cause = Unit {0}
-Stops arena full (Env EnvNodes) cause = length arena.nodes ≡ arena.limit
-Stops arena full (Env TableFull) cause = full ≡ Some true
-Stops arena full fault cause = cause
+-- Why a call stopped that opens such types, where this is the arena at entry and the flag at exit. Want of memory alone
+-- is free; nodes are wanting only where the arena had no room for what the call opens.
+abbrev pub Stops : (Tree → Type 0) → Contents → Option Bool → SetFault → Type 0 → Type 0
+Stops opens before full OutOfMemory cause = Unit {0}
+Stops opens before full Nodes cause = OutgrowsAmong opens before
+Stops opens before full (Env EnvMemory) cause = Unit {0}
+Stops opens before full (Env EnvNodes) cause = OutgrowsAmong opens before
+Stops opens before full (Env TableFull) cause = full ≡ Some true
+Stops opens before full fault cause = cause
 
 -- the answer is a node of the type that is wanted, or the fault that is, or the call stopped
-abbrev pub Gives : Contents → Option Bool → Result ℕ SetFault → Result Tree SetFault → Type 0
-Gives arena full (Ok id) want = (want ≡ Ok (tree arena.nodes id)) × (id < length arena.nodes)
-Gives arena full (Err fault) want = Stops arena full fault (want ≡ Err fault)
+abbrev pub Gives : (Tree → Type 0) → Contents → Contents → Option Bool → Result ℕ SetFault → Result Tree SetFault
+    → Type 0
+Gives opens before after full (Ok id) want = (want ≡ Ok (tree after.nodes id)) × (id < length after.nodes)
+Gives opens before after full (Err fault) want = Stops opens before full fault (want ≡ Err fault)
+
+-- the same of a side, which is all that is opened
+abbrev pub GivesSide : Contents → Contents → Option Bool → Result ℕ SetFault → Result Tree SetFault → Type 0
+GivesSide before after full result want = Gives (λ type. want ≡ Ok type) before after full result want
+
+abbrev pub AddsSide : Contents → Contents → Result Tree SetFault → Type 0
+AddsSide before after want = AddsAmong (λ type. want ≡ Ok type) before after
 
 -- the same of a declaration
-abbrev pub GivesDecl : Contents → Option Bool → Result Given SetFault → Result Decl SetFault → Type 0
-GivesDecl arena full (Ok given) want = (want ≡ Ok (decl_of arena.nodes (given_decl given)))
-    × AllBelow (length arena.nodes) (decl_nodes (given_decl given))
-GivesDecl arena full (Err fault) want = Stops arena full fault (want ≡ Err fault)
+abbrev pub GivesDecl : (Tree → Type 0) → Contents → Contents → Option Bool → Result Given SetFault
+    → Result Decl SetFault → Type 0
+GivesDecl opens before after full (Ok given) want = (want ≡ Ok (decl_of after.nodes (given_decl given)))
+    × AllBelow (length after.nodes) (decl_nodes (given_decl given))
+GivesDecl opens before after full (Err fault) want = Stops opens before full fault (want ≡ Err fault)
+
+-- the types that are opened for the side of a name: those that come with its declaration or before its fault, and the
+-- side
+abbrev pub OpensSide : Option Entry → Result Tree SetFault → Tree → Type 0
+OpensSide entry side type = Contains (entry_types entry) type ⊎ (side ≡ Ok type)
 
 -- the alias that a type is
 abbrev pub alias_name : Tree → Option QName
 alias_name (alias q) = Some q
 alias_name _ = None
+
+-- the defined type that a type is
+abbrev pub defined_name : Tree → Option QName
+defined_name (named q) = Some q
+defined_name _ = None
 
 -- the type parameter that a type is
 abbrev pub parameter_name : Tree → Option QName
@@ -83,11 +107,44 @@ pub record Meets (old : List QName) (q : QName) (new : List QName) (fresh : Bool
   pub was : list_any (same_name q) old ≡ not fresh
   pub added : fresh ≡ true → new ≡ old ++ q ∷ []
 
--- the aliases at the heads that an expansion comes to
-pub data IsHead (entries : Entries) : Tree → QName → Type 0 where
-  at_head : (type : Tree) (head : Applied) → alias_use type ≡ Some head → IsHead entries type head.name
-  further : (type : Tree) (head : Applied) (right : Tree) (q : QName) → alias_use type ≡ Some head
-      → alias_right entries head ≡ Ok right → IsHead entries right q → IsHead entries type q
+-- the name of the alias at the head, and the types that are opened for it
+abbrev pub AsksAlias : Tree → QName → Type 0
+AsksAlias type q = IsSomeAnd (alias_use type) (λ head. q ≡ head.name)
+
+abbrev pub OpensAlias : Entries → Tree → Tree → Type 0
+OpensAlias entries type opened =
+    IsSomeAnd (alias_use type) (λ head. OpensSide (entries head.name) (alias_right entries head) opened)
+
+-- the same of the defined type
+abbrev pub AsksDefined : Tree → QName → Type 0
+AsksDefined type q = IsSomeAnd (defined_use type) (λ head. q ≡ head.name)
+
+abbrev pub OpensDefined : Entries → Tree → Tree → Type 0
+OpensDefined entries type opened =
+    IsSomeAnd (defined_use type) (λ head. OpensSide (entries head.name) (defined_right entries head) opened)
+
+-- the types that an expansion comes to, from alias to alias at the head
+pub data LeadsTo (entries : Entries) : Tree → Tree → Type 0 where
+  itself : (type : Tree) → LeadsTo entries type type
+  further : (type : Tree) (head : Applied) (right end : Tree) → alias_use type ≡ Some head
+      → alias_right entries head ≡ Ok right → LeadsTo entries right end → LeadsTo entries type end
+
+-- what an expansion asks for and opens on its way
+abbrev pub AsksExpanding : Entries → Tree → QName → Type 0
+AsksExpanding entries type q = (end : Tree) × LeadsTo entries type end × AsksAlias end q
+
+abbrev pub OpensExpanding : Entries → Tree → Tree → Type 0
+OpensExpanding entries type opened = (end : Tree) × LeadsTo entries type end × OpensAlias entries end opened
+
+-- what the underlying type asks for and opens
+abbrev pub AsksUnder : Entries → List QName → Tree → QName → Type 0
+AsksUnder entries names type q =
+    AsksExpanding entries type q ⊎ IsOkAnd (expanded entries names type) (λ found. AsksDefined found q)
+
+abbrev pub OpensUnder : Entries → List QName → Tree → Tree → Type 0
+OpensUnder entries names type opened =
+    OpensExpanding entries type opened
+    ⊎ IsOkAnd (expanded entries names type) (λ found. OpensDefined entries found opened)
 
 -- the alias at the head gave way to its right side
 pub record IsLed (entries : Entries) (old : List QName) (type : Tree) (new : List QName) (right : Tree) : Type 0 where
@@ -98,10 +155,10 @@ pub record IsLed (entries : Entries) (old : List QName) (type : Tree) (new : Lis
   pub right_is : alias_right entries head ≡ Ok right
 
 -- One turn of an expansion: nothing where the head is no alias, and else what stands in its place.
-abbrev pub Leads : Entries → List QName → Tree → List QName → Contents → Option Bool → Result (Option ℕ) SetFault
-    → Type 0
-Leads entries old type new arena full (Ok None) = alias_use type ≡ None
-Leads entries old type new arena full (Ok (Some id)) = IsLed entries old type new (tree arena.nodes id)
-    × (id < length arena.nodes)
-Leads entries old type new arena full (Err fault) = Stops arena full fault
+abbrev pub Leads : Entries → List QName → Tree → List QName → Contents → Contents → Option Bool
+    → Result (Option ℕ) SetFault → Type 0
+Leads entries old type new before after full (Ok None) = alias_use type ≡ None
+Leads entries old type new before after full (Ok (Some id)) = IsLed entries old type new (tree after.nodes id)
+    × (id < length after.nodes)
+Leads entries old type new before after full (Err fault) = Stops (OpensAlias entries type) before full fault
     ((more : List QName → Tree → Result Tree SetFault) → led entries more old type (alias_use type) ≡ Err fault)

@@ -1,4 +1,5 @@
 pub mod Substitution
 pub mod Moves
 pub mod Expansion
+pub mod OpenedTypes
 pub mod Calls

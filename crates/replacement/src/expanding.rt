@@ -1,15 +1,17 @@
 //! Aliases at the head of a type, replaced by their right sides.
 
 ghost use Rattle.std.specs.Prelude.{◌≡◌, ◌<◌, ◌⊎◌, ℕ, List, Option, Some, None, map, length, option_map, IfOk, IfSome};
-ghost use Rattle.std.specs.Prelude.{IsSomeAnd};
-ghost use Rattle.std.specs.List.{All};
+ghost use Rattle.std.specs.List.{All, Contains};
+ghost use Rattle.environments.specs.Environments.{entry_types};
 ghost use Rattle.type_terms.specs.declared.descriptors.Node.{Node as Descriptor};
 ghost use Rattle.type_terms.specs.Arenas.{AllBelow, Extends};
 ghost use Rattle.type_terms.specs.DeclarationRules.{IsTypeParameter};
 ghost use Rattle.type_terms.specs.Denotation.{tree};
 ghost use Rattle.replacement.specs.Expansion.{Applied, known, alias_use, parameter_names, capped, put_each};
 ghost use Rattle.replacement.specs.Expansion.{alias_right, expanded};
-ghost use Rattle.replacement.specs.Calls.{world, Kept, Gives, GivesDecl, alias_name, parameter_name, applied, Meets, IsHead, Leads};
+ghost use Rattle.replacement.specs.Calls.{world, Kept, Gives, GivesDecl, GivesSide, AddsSide, alias_name};
+ghost use Rattle.replacement.specs.Calls.{parameter_name, applied, Meets, AsksAlias, OpensAlias, OpensSide, Leads};
+ghost use Rattle.replacement.specs.Calls.{AsksExpanding, OpensExpanding};
 
 use crate::faults::SetFault;
 use crate::substituting::substitute;
@@ -21,9 +23,9 @@ use type_terms::{Arena, ArenaError, DeclNode, Node, NodeId};
 
 /// A name with its arguments, of which there are none where it stands alone.
 #[derive(Debug, Drop)]
-struct Head {
-    name: QName,
-    args: Vec<NodeId>,
+pub(crate) struct Head {
+    pub(crate) name: QName,
+    pub(crate) args: Vec<NodeId>,
 }
 
 /// The type with an alias at its head replaced by the right side, in which the arguments stand for the type parameters,
@@ -36,9 +38,11 @@ pub fn expand<'a, E: Env<'a>>(
 ) -> Result<NodeId, SetFault>
     requires stands { E.stands env.old arena.old.nodes }
     requires there { node < length arena.old.nodes }
-    ensures exact { Gives arena.new (E.full env.new) result
+    ensures exact { Gives (OpensExpanding (E.entries env.old arena.old.nodes) (tree arena.old.nodes node))
+        arena.old arena.new (E.full env.new) result
         (expanded (E.entries env.old arena.old.nodes) (E.names env.old) (tree arena.old.nodes node)) }
-    ensures kept { Kept (IsHead (E.entries env.old arena.old.nodes) (tree arena.old.nodes node))
+    ensures kept { Kept (AsksExpanding (E.entries env.old arena.old.nodes) (tree arena.old.nodes node))
+        (OpensExpanding (E.entries env.old arena.old.nodes) (tree arena.old.nodes node))
         (world (E.entries env.old arena.old.nodes) (E.names env.old) (E.packages env.old) (E.asked env.old))
         (world (E.entries env.new arena.new.nodes) (E.names env.new) (E.packages env.new) (E.asked env.new))
         arena.old arena.new }
@@ -63,8 +67,9 @@ fn follow<'a, E: Env<'a>>(
     requires stands { E.stands env.old arena.old.nodes }
     requires there { node < length arena.old.nodes }
     ensures exact { Leads (E.entries env.old arena.old.nodes) met.old.keys (tree arena.old.nodes node) met.new.keys
-        arena.new (E.full env.new) result }
-    ensures kept { Kept (λ name. IsSomeAnd (alias_use (tree arena.old.nodes node)) (λ head. name ≡ head.name))
+        arena.old arena.new (E.full env.new) result }
+    ensures kept { Kept (AsksAlias (tree arena.old.nodes node))
+        (OpensAlias (E.entries env.old arena.old.nodes) (tree arena.old.nodes node))
         (world (E.entries env.old arena.old.nodes) (E.names env.old) (E.packages env.old) (E.asked env.old))
         (world (E.entries env.new arena.new.nodes) (E.names env.new) (E.packages env.new) (E.asked env.new))
         arena.old arena.new }
@@ -108,7 +113,11 @@ fn alias_at_head(alloc: Global, arena: &Arena, id: NodeId) -> Result<Option<Head
 }
 
 /// A name, where there is one, with arguments.
-fn with_args(alloc: Global, q: Option<&QName>, args: &[NodeId]) -> Result<Option<Head>, AllocError>
+pub(crate) fn with_args(
+    alloc: Global,
+    q: Option<&QName>,
+    args: &[NodeId],
+) -> Result<Option<Head>, AllocError>
     ensures head { (nodes : List Descriptor)
         → IfOk result (λ used. option_map (λ head. applied nodes head.name head.args.items) used
         ≡ option_map (λ name. applied nodes name.now args.now) q.entry) }
@@ -155,9 +164,12 @@ fn right_of_alias<'a, E: Env<'a>>(
 ) -> Result<NodeId, SetFault>
     requires stands { E.stands env.old arena.old.nodes }
     requires args { AllBelow (length arena.old.nodes) args.now }
-    ensures exact { Gives arena.new (E.full env.new) result
+    ensures exact { Gives (OpensSide (E.entries env.old arena.old.nodes q.now)
+        (alias_right (E.entries env.old arena.old.nodes) (applied arena.old.nodes q.now args.now)))
+        arena.old arena.new (E.full env.new) result
         (alias_right (E.entries env.old arena.old.nodes) (applied arena.old.nodes q.now args.now)) }
-    ensures kept { Kept (λ name. name ≡ q.now)
+    ensures kept { Kept (λ name. name ≡ q.now) (OpensSide (E.entries env.old arena.old.nodes q.now)
+        (alias_right (E.entries env.old arena.old.nodes) (applied arena.old.nodes q.now args.now)))
         (world (E.entries env.old arena.old.nodes) (E.names env.old) (E.packages env.old) (E.asked env.old))
         (world (E.entries env.new arena.new.nodes) (E.names env.new) (E.packages env.new) (E.asked env.new))
         arena.old arena.new }
@@ -175,15 +187,16 @@ fn right_of_alias<'a, E: Env<'a>>(
 }
 
 /// The declaration of a name.
-fn given_for<'a, E: Env<'a>>(
+pub(crate) fn given_for<'a, E: Env<'a>>(
     env: &mut E,
     arena: &mut Arena,
     q: &QName,
 ) -> Result<Given<'a>, SetFault>
     requires stands { E.stands env.old arena.old.nodes }
-    ensures exact { GivesDecl arena.new (E.full env.new) result
-        (known (E.entries env.old arena.old.nodes q.now) q.now) }
+    ensures exact { GivesDecl (Contains (entry_types (E.entries env.old arena.old.nodes q.now)))
+        arena.old arena.new (E.full env.new) result (known (E.entries env.old arena.old.nodes q.now) q.now) }
     ensures kept { Kept (λ name. name ≡ q.now)
+        (Contains (entry_types (E.entries env.old arena.old.nodes q.now)))
         (world (E.entries env.old arena.old.nodes) (E.names env.old) (E.packages env.old) (E.asked env.old))
         (world (E.entries env.new arena.new.nodes) (E.names env.new) (E.packages env.new) (E.asked env.new))
         arena.old arena.new }
@@ -196,7 +209,7 @@ fn given_for<'a, E: Env<'a>>(
 }
 
 /// A right side with the arguments put in for the type parameters.
-fn put_in(
+pub(crate) fn put_in(
     alloc: Global,
     arena: &mut Arena,
     q: &QName,
@@ -208,10 +221,13 @@ fn put_in(
     requires args { AllBelow (length arena.old.nodes) args.now }
     requires tparams { AllBelow (length arena.old.nodes) tparams.now }
     requires are { All IsTypeParameter (map (tree arena.old.nodes) tparams.now) }
-    ensures exact { (full : _) → Gives arena.new full result
+    ensures exact { (full : _) → GivesSide arena.old arena.new full result
         (put_each (applied arena.old.nodes q.now args.now) (map (tree arena.old.nodes) tparams.now)
         (map (tree arena.old.nodes) args.now) (tree arena.old.nodes right)) }
     ensures extends { Extends arena.old arena.new }
+    ensures adds { AddsSide arena.old arena.new
+        (put_each (applied arena.old.nodes q.now args.now) (map (tree arena.old.nodes) tparams.now)
+        (map (tree arena.old.nodes) args.now) (tree arena.old.nodes right)) }
 {
     if tparams.is_empty() {
         if args.is_empty() {
@@ -270,7 +286,7 @@ fn parameter_at(arena: &Arena, id: NodeId) -> Option<&QName>
 }
 
 /// That the name's declaration is of another kind, or that there was no memory to say so.
-fn wrong_kind(q: &QName) -> SetFault
+pub(crate) fn wrong_kind(q: &QName) -> SetFault
     ensures { (result ≡ SetFault.Kind q.now) ⊎ (result ≡ SetFault.OutOfMemory) }
 {
     match q.clone() {

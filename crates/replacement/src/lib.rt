@@ -8,6 +8,7 @@ mod nodes;
 mod parts;
 mod reaching;
 mod substituting;
+mod underlying;
 
 pub use expanding::expand;
 pub use faults::SetFault;
@@ -17,3 +18,4 @@ pub use laws::{
     more_names_change_no_expansion, the_first_of_equal_parameters_counts,
 };
 pub use substituting::substitute;
+pub use underlying::under;

@@ -3,14 +3,14 @@ use Rattle.std.specs.Prelude.{option_map}
 use Rattle.type_terms.specs.declared.descriptors.Node.TheVariants.{Instance}
 use Rattle.type_terms.specs.Arenas.{AllBelow}
 use Rattle.replacement.specs.Calls.{applied}
-use Rattle.replacement.proofs.HeadLemmas.{ok_weaker, some_weaker, maps_join, instance_use, other_use, args_below}
+use Rattle.replacement.proofs.HeadLemmas.{ok_weaker, some_weaker, maps_join, instance_alias, other_alias, args_below}
 use Rattle.replacement.proofs.expanding.alias_at_head.Goals as goal
 
 pub returns-in-Instance-clause-head : goal.returns-in-Instance-clause-head
 returns-in-Instance-clause-head c =
     let nodes = c.args.arena.now.nodes in
     let node : c.node.result.now ≡ Instance c.in-Instance.base c.items.result.now = search rules in
-    let whole = instance_use nodes c.args.id c.in-Instance.base c.items.result.now c.node.result.now c.node.ensures.denotes node
+    let whole = instance_alias nodes c.args.id c.node.result.now c.node.ensures.denotes c.in-Instance.base c.items.result.now node
     ∙ ap (option_map (λ q. applied nodes q c.items.result.now)) c.alias_at.ensures
     ∙ maps_join (λ q. q.now) (λ q. applied nodes q c.items.result.now) c.alias_at.result in
     ok_weaker _ _ c.with_args.result (λ used same. whole ∙ sym same) (c.with_args.ensures.head nodes)
@@ -26,7 +26,7 @@ pub returns : goal.returns
 returns c =
     let nodes = c.args.arena.now.nodes in
     let bound = length nodes in
-    let whole = other_use nodes c.args.id c.node.result.now c.node.ensures.denotes c.in_default.not-Instance
+    let whole = other_alias nodes c.args.id c.node.result.now c.node.ensures.denotes c.in_default.not-Instance
     ∙ ap (option_map (λ q. applied nodes q [])) c.alias_at-2.ensures
     ∙ maps_join (λ q. q.now) (λ q. applied nodes q []) c.alias_at-2.result in
     record {

@@ -1,13 +1,26 @@
-use Rattle.std.proofs.Common.{rules, ◌≡◌, map, refl, ap, sym, ◌∙◌, subst}
+use Rattle.std.proofs.Common.{rules, ◌≡◌, map, refl, ap, sym, ◌∙◌, subst, inl}
 use Rattle.std.specs.List.{All}
+use Rattle.std.proofs.lemmas.Result.{err_from_is_err_and}
 use Rattle.environments.specs.Environments.{given_decl}
+use Rattle.environments.specs.EntryLaws.{extends_env}
 use Rattle.type_terms.specs.declared.declarations.DeclNode.TheVariants.{Alias}
+use Rattle.type_terms.specs.Declarations.{decl_of}
 use Rattle.type_terms.specs.Denotation.{tree}
 use Rattle.type_terms.specs.DeclarationRules.{IsTypeParameter}
-use Rattle.replacement.specs.Expansion.{put_each}
-use Rattle.replacement.specs.Calls.{applied, Gives}
-use Rattle.replacement.proofs.ParameterLemmas.{alias_parameters, alias_put}
+use Rattle.replacement.specs.Expansion.{then, put_each, alias_side, alias_right}
+use Rattle.replacement.specs.Calls.{applied, GivesSide, AddsSide}
+use Rattle.replacement.proofs.KeptLemmas.{stops_more, kept_more, side_gives, side_kept}
+use Rattle.replacement.proofs.ParameterLemmas.{alias_parameters, side_is}
 use Rattle.replacement.proofs.expanding.right_of_alias.Goals as goal
+
+pub returns-in_err-given-clause-exact : goal.returns-in_err-given-clause-exact
+returns-in_err-given-clause-exact g c =
+    let head = applied c.args.arena.now.nodes c.args.q.now c.args.args.now in
+    let p = err_from_is_err_and c.from_residual.result c.from_residual.ensures.1 in
+    rw (p.1, p.2) (stops_more _ _ c.args.arena.now (λ type held. inl held) (g.E.Env.full c.given_for.new.env) c.in_err-given.field-0.0 _ _ (λ is. ap (λ r. then r (alias_side head)) is) c.in_err-given.ensures.exact)
+
+pub returns-in_err-given-clause-kept : goal.returns-in_err-given-clause-kept
+returns-in_err-given-clause-kept g c = kept_more _ _ _ _ _ _ _ _ (λ q is. is) (λ type held. inl held) c.in_err-given.ensures.kept
 
 pub put_in-requires-clause-are : goal.put_in-requires-clause-are
 put_in-requires-clause-are g c =
@@ -17,7 +30,7 @@ put_in-requires-clause-are g c =
     let node : given ≡ Alias c.in-Alias.pos c.in-Alias.tparams c.in-Alias.ty = search rules in
     let does = c.in_ok-given.ensures in
     subst (λ ts. All IsTypeParameter (map (tree now.nodes) ts)) (sym c.items.ensures)
-    (alias_parameters entries c.args.q.now now.nodes given c.in-Alias.pos c.in-Alias.tparams c.in-Alias.ty does.exact.0 node
+    (alias_parameters entries c.args.q.now now.nodes given c.in-Alias.tparams c.in-Alias.ty does.exact.0 c.in-Alias.pos node
     (λ own stands. (g.met.E.Env c.lifetimes (search rules)).proper c.given_for.new.env now.nodes c.args.q.now own does.stands_after (ap (λ e. e c.args.q.now) does.kept.entries ∙ stands)))
 
 pub returns-in-Alias-clause-exact : goal.returns-in-Alias-clause-exact
@@ -29,6 +42,25 @@ returns-in-Alias-clause-exact g c =
     let node : given ≡ Alias c.in-Alias.pos c.in-Alias.tparams c.in-Alias.ty = search rules in
     let does = c.in_ok-given.ensures in
     let full = g.E.Env.full c.given_for.new.env in
-    let gives = subst (λ ts. Gives c.put_in.new.arena full c.put_in.result (put_each (applied now.nodes c.args.q.now c.args.args.now) (map (tree now.nodes) ts) (map (tree now.nodes) c.args.args.now) (tree now.nodes c.in-Alias.ty))) c.items.ensures (c.put_in.ensures.exact full) in
-    alias_put entries c.args.q.now now.nodes given c.in-Alias.pos c.in-Alias.tparams c.in-Alias.ty does.exact.0 node
-    old now full c.args.args.now c.put_in.result c.put_in.new.arena refl does.kept.extends c.requires.args gives
+    let same = side_is entries c.args.q.now now.nodes given c.in-Alias.tparams c.in-Alias.ty does.exact.0 alias_side
+    (λ head. ap (λ d. alias_side head (decl_of now.nodes d)) node) old now refl does.kept.extends c.args.args.now c.requires.args in
+    let gives = subst (λ ts. GivesSide now c.put_in.new.arena full c.put_in.result (put_each (applied now.nodes c.args.q.now c.args.args.now) (map (tree now.nodes) ts) (map (tree now.nodes) c.args.args.now) (tree now.nodes c.in-Alias.ty))) c.items.ensures (c.put_in.ensures.exact full) in
+    side_gives (entries c.args.q.now) _ _ same old now c.put_in.new.arena does.kept.extends does.kept.adds full c.put_in.result gives
+
+pub returns-in-Alias-clause-kept : goal.returns-in-Alias-clause-kept
+returns-in-Alias-clause-kept g c =
+    let old = c.args.arena.now in
+    let now = c.given_for.new.arena in
+    let entries = g.E.Env.entries c.args.env.now old.nodes in
+    let given = given_decl c.in_ok-given.given in
+    let node : given ≡ Alias c.in-Alias.pos c.in-Alias.tparams c.in-Alias.ty = search rules in
+    let does = c.in_ok-given.ensures in
+    let env = c.given_for.new.env in
+    let same = side_is entries c.args.q.now now.nodes given c.in-Alias.tparams c.in-Alias.ty does.exact.0 alias_side
+    (λ head. ap (λ d. alias_side head (decl_of now.nodes d)) node) old now refl does.kept.extends c.args.args.now c.requires.args in
+    let adds = subst (λ ts. AddsSide now c.put_in.new.arena (put_each (applied now.nodes c.args.q.now c.args.args.now) (map (tree now.nodes) ts) (map (tree now.nodes) c.args.args.now) (tree now.nodes c.in-Alias.ty))) c.items.ensures c.put_in.ensures.adds in
+    let stay = extends_env (g.E.Env.stands env) (g.E.Env.entries env) ((g.met.E.Env c.lifetimes (search rules)).stays env) now c.put_in.new.arena c.put_in.ensures.extends does.stands_after in
+    side_kept (entries c.args.q.now) _ _ same _ _ _ old now c.put_in.new.arena does.kept _ stay.1 refl refl refl c.put_in.ensures.extends adds
+
+pub returns-clause-kept : goal.returns-clause-kept
+returns-clause-kept g c = kept_more _ _ _ _ _ _ _ _ (λ q is. is) (λ type held. inl held) c.in_ok-given.ensures.kept
