@@ -4,3 +4,5 @@ mod Listed
 mod Standing
 mod ComingDown
 mod Outcomes
+mod OpenLemmas
+mod LoadingLemmas

@@ -2,3 +2,5 @@ pub mod FileSections
 pub mod Sessions
 pub mod Names
 pub mod Answers
+pub mod Loading
+pub mod OpenSessions

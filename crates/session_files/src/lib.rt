@@ -1,6 +1,15 @@
 //! Sessions of files: what their names are, and what comes of taking files in.
 #![tactic(auto)]
 
+mod files;
 mod laws;
+mod limits;
+mod loading;
+mod session;
+mod sources;
 
 pub use laws::{names_come_down, one_answer};
+pub use limits::{MOST_BYTES, MOST_FILES};
+pub use loading::LoadError;
+pub use session::Session;
+pub use sources::{Content, Source};

@@ -1,0 +1,83 @@
+//! Sessions of files.
+
+ghost use Rattle.std.specs.Prelude.{◌≡◌, ◌≤◌, length, map, option_map, slice_get, IfOk, IfErr, IfSome, IfNone};
+ghost use Rattle.session_files.specs.Sessions.{IsUnknown, Stands};
+ghost use Rattle.session_files.specs.Loading.{word_of, AreTaken, IsRefused, IsCause};
+
+use crate::files::{SessionFile, find_in};
+use crate::loading::{LoadError, take_all_in};
+use crate::sources::Source;
+use name_index::Image;
+use outside::Files;
+use std::alloc::Global;
+use std::marker::Model;
+
+/// The files that were taken in. Contracts see them with their labels, in their order.
+#[derive(Debug, Drop)]
+pub struct Session {
+    files: Vec<SessionFile>,
+}
+
+impl Model for Session {
+    ghost use Rattle.std.specs.Prelude.{List};
+    ghost use Rattle.session_files.specs.Sessions.{Opened};
+    ghost use Rattle.session_files.specs.OpenSessions.{all_opened, IsSession};
+
+    ghost Value = { List Opened };
+
+    ghost view = { λ s. all_opened s.files.items };
+
+    ghost invariant = { λ s. IsSession (all_opened s.files.items) };
+}
+
+impl Session {
+    /// Takes in the files of these sources, in their order: at most 256, each of at most 16 MiB and all of at most
+    /// 64 MiB. The first that can't be taken in is refused. For each the number of the files comes first, then the
+    /// fetch, the length of the file and of all, and what its bytes are. `Failed` comes only where the device counted
+    /// a fault.
+    pub fn load<F: Files>(
+        alloc: Global,
+        device: &mut F,
+        sources: &[Source<'_>],
+    ) -> Result<Session, LoadError>
+        ensures loaded { IfOk result
+            (λ session. AreTaken (F.held device.old) (map word_of sources.now) session) }
+        ensures cause { IfErr result (IsCause
+            (IsRefused (F.held device.old) (F.faults device.old) (F.faults device.new) (map word_of sources.now))) }
+        ensures kept { F.held device.new ≡ F.held device.old }
+        ensures counted { F.faults device.old ≤ F.faults device.new }
+    {
+        let files = take_all_in(alloc, device, sources)?;
+        // What shallow files list and no file covers will be fetched here.
+        Ok(Session { files })
+    }
+
+    /// How many files it has.
+    pub fn file_count(&self) -> u32
+        ensures { result ≡ length self.now }
+    {
+        self.files.len() as u32
+    }
+
+    /// The file with this number, in the order in which files were taken in.
+    pub fn image(&self, file: u32) -> Option<&Image>
+        ensures { option_map (λ image. image.now) result ≡ option_map (λ o. o.file) (slice_get self.now file) }
+    {
+        Some(&self.files.get(file as usize)?.image)
+    }
+
+    /// The text by which messages name the file with this number.
+    pub fn label(&self, file: u32) -> Option<&str>
+        ensures { option_map (λ label. label.now) result ≡ option_map (λ o. o.label) (slice_get self.now file) }
+    {
+        Some(self.files.get(file as usize)?.label.as_str())
+    }
+
+    /// The number of the first file that lists the name, and the name's number in its index.
+    pub fn find(&self, path: &[u8], name: &[u8]) -> Option<(u32, u32)>
+        ensures found { IfSome result (λ at. Stands self.now path.now name.now at.0 at.1) }
+        ensures none { IfNone result (IsUnknown self.now path.now name.now) }
+    {
+        find_in(&self.files, path, name)
+    }
+}
