@@ -1,5 +1,5 @@
 -- What is kept on the way of an expansion.
-use Rattle.std.proofs.Common.{◌≡◌, ℕ, ◌+◌, ◌-◌, ◌<◌, ◌≤◌, zero, suc, false, cond, List, [], ◌∷◌, ◌++◌, length, length-append, Option, Some, None, Ok, Err, refl, ap, sym, subst, ◌∙◌, arith}
+use Rattle.std.proofs.Common.{◌≡◌, ℕ, ◌+◌, ◌-◌, ◌<◌, ◌≤◌, zero, suc, false, cond, List, [], ◌∷◌, ◌++◌, length, length-append, Option, Some, None, Ok, Err, ap, sym, subst, ◌∙◌, arith}
 use Rattle.std.specs.Prelude.{Result, Bool, IsSomeAnd}
 use Rattle.std.specs.List.{list_any, Contains}
 use Rattle.std.proofs.lemmas.Map.Views.{list_any-from_Contains}
@@ -7,14 +7,13 @@ use Rattle.environments.specs.Environments.{Entry}
 use Rattle.type_terms.specs.Arenas.{Contents, Extends}
 use Rattle.type_terms.specs.Extensions.{extends_tree, extends_longer}
 use Rattle.type_terms.specs.Denotation.{tree}
-use Rattle.environments.specs.declared.declaring.EnvError.TheVariants.{Unknown, Damaged, TableFull, Nodes as EnvNodes, OutOfMemory as EnvMemory}
 use Rattle.std.proofs.lemmas.Map.Made.{length-le_from_is_member}
 use Rattle.go_values.specs.declared.qualified.QName.{QName}
 use Rattle.go_values.specs.contracts.qualified.QNameEq.TheImpl.Laws as qname_laws
 use Rattle.type_terms.specs.Trees.{Tree}
 use Rattle.type_terms.specs.TreeEquality.{same_name}
 use Rattle.replacement.specs.declared.faults.SetFault.{SetFault}
-use Rattle.replacement.specs.declared.faults.SetFault.TheVariants.{Env, AliasCycle, Arity, Kind, Nodes, OutOfMemory}
+use Rattle.replacement.specs.declared.faults.SetFault.TheVariants.{AliasCycle}
 use Rattle.replacement.specs.Expansion.{Entries, Applied, AreNames, then, alias_use, alias_right, led, expanded_from, expanded}
 use Rattle.replacement.specs.Calls.{LeadsTo, itself, further, AsksAlias, OpensAlias, AsksExpanding, OpensExpanding, OpensSide, IsLed, Leads, Stops, Gives}
 use Rattle.replacement.specs.OpenedTypes.{AddsAmong}

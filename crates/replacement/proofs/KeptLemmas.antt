@@ -4,7 +4,7 @@ use Rattle.std.specs.Prelude.{Result}
 use Rattle.std.specs.List.{Contains}
 use Rattle.std.proofs.lemmas.Bool.{cases_lt}
 use Rattle.go_values.specs.declared.qualified.QName.{QName}
-use Rattle.type_terms.specs.Additions.{IsDenoted, StandsIn, AddsOnly, Outgrows}
+use Rattle.type_terms.specs.Additions.{IsDenoted, AddsOnly, Outgrows}
 use Rattle.type_terms.specs.Arenas.{Contents, Extends}
 use Rattle.type_terms.specs.Denotation.{tree}
 use Rattle.type_terms.specs.Extensions.{extends_itself, extends_again, extends_tree}

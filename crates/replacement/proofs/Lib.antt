@@ -10,3 +10,4 @@ mod ExpandingLemmas
 mod ParameterLemmas
 mod HeadLemmas
 mod UnderlyingLemmas
+mod DependenceLemmas

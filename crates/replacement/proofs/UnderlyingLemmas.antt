@@ -1,14 +1,13 @@
 -- What stands beneath an expanded type, and what both steps give.
-use Rattle.std.proofs.Common.{◌≡◌, ℕ, Bool, List, Option, Some, Ok, Err, refl, ap, sym, subst, ◌∙◌, inl, inr}
+use Rattle.std.proofs.Common.{◌≡◌, ℕ, Bool, List, Option, Some, Ok, Err, ap, sym, subst, ◌∙◌, inl, inr}
 use Rattle.std.specs.Prelude.{Result, IsSomeAnd, IsOkAnd}
 use Rattle.go_values.specs.declared.qualified.QName.{QName}
 use Rattle.type_terms.specs.Arenas.{Contents, Extends}
-use Rattle.type_terms.specs.Denotation.{tree}
 use Rattle.type_terms.specs.Trees.{Tree}
 use Rattle.replacement.specs.declared.faults.SetFault.{SetFault}
 use Rattle.replacement.specs.Expansion.{Entries, Applied, then, defined_use, defined_right, beneath, expanded, underlying}
 use Rattle.replacement.specs.OpenedTypes.{AddsAmong}
-use Rattle.replacement.specs.Calls.{World, Kept, Stops, Gives, OpensSide, AsksDefined, OpensDefined, AsksExpanding, OpensExpanding, AsksUnder, OpensUnder}
+use Rattle.replacement.specs.Calls.{World, Kept, Gives, OpensSide, AsksDefined, OpensDefined, AsksExpanding, OpensExpanding, AsksUnder, OpensUnder}
 use Rattle.replacement.proofs.KeptLemmas.{stops_more, stops_later, adds_wider, kept_again, kept_more}
 
 -- an answer is that of the type

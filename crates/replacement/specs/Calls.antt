@@ -40,13 +40,13 @@ AsksAmong may None (Some new) = ⊥
 -- What a call keeps: all that an environment means, and each node of the arena. It asks for such names alone, and adds
 -- what stands in such types alone.
 pub record Kept (may : QName → Type 0) (opens : Tree → Type 0) (old new : World) (before after : Contents) : Type 0
-    where
-  pub entries : new.entries ≡ old.entries
-  pub names : new.names ≡ old.names
-  pub packages : new.packages ≡ old.packages
-  pub asked : AsksAmong may old.asked new.asked
-  pub extends : Extends before after
-  pub adds : AddsAmong opens before after
+  where
+    pub entries : new.entries ≡ old.entries
+    pub names : new.names ≡ old.names
+    pub packages : new.packages ≡ old.packages
+    pub asked : AsksAmong may old.asked new.asked
+    pub extends : Extends before after
+    pub adds : AddsAmong opens before after
 
 -- Why a call stopped that opens such types, where this is the arena at entry and the flag at exit. Want of memory alone
 -- is free; nodes are wanting only where the arena had no room for what the call opens.

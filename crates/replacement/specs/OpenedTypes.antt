@@ -1,5 +1,5 @@
 -- The types that a call opens, what it may add to an arena for them, and why there may be no room for them.
-use Rattle.std.specs.Prelude.{◌≡◌, ◌≢◌, ℕ, ◌<◌, ◌≤◌, ◌⊎◌, List, length}
+use Rattle.std.specs.Prelude.{◌≢◌, ℕ, ◌<◌, ◌≤◌, ◌⊎◌, List, length}
 use Rattle.std.specs.List.{AllPairs, Contains}
 use Rattle.type_terms.specs.Trees.{Tree}
 use Rattle.type_terms.specs.Parts.{Within}

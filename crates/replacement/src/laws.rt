@@ -6,6 +6,8 @@ ghost use Rattle.go_values.specs.declared.qualified.QName.{QName as Name};
 ghost use Rattle.type_terms.specs.Parts.{Within};
 ghost use Rattle.type_terms.specs.Trees.{Tree, parameter, level_of};
 ghost use Rattle.replacement.specs.Expansion.{Entries, AreNames, alias_use, expanded_from, expanded};
+ghost use Rattle.replacement.specs.Expansion.{underlying};
+ghost use Rattle.replacement.specs.Calls.{AsksExpanding, AsksUnder};
 ghost use Rattle.replacement.specs.Substitution.{argument, replaced, substituted, level_replaced};
 
 /// A replacement goes by levels: it replaces what stands in a type, and what is no parameter of its own level stays.
@@ -40,4 +42,14 @@ pub fn more_names_change_no_expansion()
 pub fn an_expanded_type_has_no_alias_at_its_head()
     ensures { (entries : Entries) (names : List Name) → AreNames entries names → (type found : Tree)
         → expanded entries names type ≡ Ok found → alias_use found ≡ None }
+{}
+
+/// Expansions and underlying types depend only on what stands behind the names that they come to.
+pub fn only_names_at_heads_count()
+    ensures expanded { (entries other : Entries) (names : List Name) (type : Tree)
+        → ((q : Name) → AsksExpanding entries type q → other q ≡ entries q)
+        → expanded other names type ≡ expanded entries names type }
+    ensures underlying { (entries other : Entries) (names : List Name) (type : Tree)
+        → ((q : Name) → AsksUnder entries names type q → other q ≡ entries q)
+        → underlying other names type ≡ underlying entries names type }
 {}

@@ -141,8 +141,8 @@ module _ (settle : Tree → Result Tree SetFault) (free : Tree → Answer) where
   on_base expand (named q) tests = settled (on_instance q tests)
   on_base expand _ tests = λ type. Ok false
 
-  -- Whether a type is identical to this one, which holds no interface but the empty one. An alias is what its right side
-  -- is, in which a parameter is what its argument is.
+  -- Whether a type is identical to this one, which holds no interface but the empty one. An alias is what its right
+  -- side is, in which a parameter is what its argument is.
   module _ (expand : QName → List Test → Test) (given : QName → Test) where
     abbrev mutual
       pub alike : Tree → Test

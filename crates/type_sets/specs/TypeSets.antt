@@ -1,6 +1,7 @@
 -- The type set of a type, over an environment's entries, and the pairs of equally named methods.
-use Rattle.std.specs.Prelude.{ℕ, List, [], ◌∷◌, ◌++◌, ◌&&◌, Bool, true, false, cond, map}
+use Rattle.std.specs.Prelude.{◌≡◌, ℕ, List, [], ◌∷◌, ◌++◌, ◌&&◌, Bool, true, false, cond, map}
 use Rattle.std.specs.Prelude.{Option, Some, None, Result, Ok, option_map}
+use Rattle.std.specs.List.{AllByRecursion}
 use Rattle.std.specs.Cmp.Lexicographic.{slice_cmp}
 use Rattle.std.specs.Ordering.{nat_cmp, ordering_then}
 use Rattle.std.specs.declared.cmp.Ordering.{Ordering}
@@ -51,6 +52,11 @@ with_method method (other ∷ rest) =
 abbrev pub with_methods : List SetMethod → List SetMethod → List SetMethod
 with_methods [] found = found
 with_methods (method ∷ rest) found = with_methods rest (with_method method found)
+
+-- each stands before all that follow it
+abbrev pub Ascend : List SetMethod → Type 0
+Ascend [] = Unit {0}
+Ascend (method ∷ rest) = AllByRecursion (λ other. method_order method other ≡ Less) rest × Ascend rest
 
 -- the first method of the key
 abbrev pub first_of_key : SetMethod → List SetMethod → Option SetMethod

@@ -1,7 +1,7 @@
 //! The laws of the definitions, as clauses of functions that do nothing.
 
 ghost use Rattle.std.specs.Prelude.{◌≡◌, ◌≢◌, ◌≤◌, ◌↔◌, List, [], length, true, Option, Some, Ok};
-ghost use Rattle.std.specs.List.{All, AllPairs, list_any};
+ghost use Rattle.std.specs.List.{All, AllPairs, Contains, list_any};
 ghost use Rattle.go_values.specs.declared.qualified.QName.{QName as Name};
 ghost use Rattle.code_tables.specs.declared.predeclared.Basic.TheVariants.{Comparable};
 ghost use Rattle.type_terms.specs.Trees.{Tree, predeclared};
@@ -10,8 +10,8 @@ ghost use Rattle.interface_opening.specs.Having.{HasAll};
 ghost use Rattle.interface_opening.specs.Terms.{meet_lists};
 ghost use Rattle.interface_opening.specs.Meeting.{IsMeeting};
 ghost use Rattle.replacement.specs.Expansion.{Entries};
-ghost use Rattle.type_sets.specs.Interfaces.{SetMethod, interface_of};
-ghost use Rattle.type_sets.specs.TypeSets.{looks, opened, same_term, covers};
+ghost use Rattle.type_sets.specs.Interfaces.{SetMethod, same_key, interface_of};
+ghost use Rattle.type_sets.specs.TypeSets.{looks, opened, same_term, covers, Ascend, with_methods, first_of_key};
 
 /// Each distinct interface is opened once, and at most 65,536 are.
 pub fn each_interface_is_opened_once()
@@ -32,6 +32,15 @@ pub fn what_is_opened_gives_the_set()
 pub fn the_flag_is_that_of_comparable()
     ensures { (name : Option Name) (under : Tree) (shown : Interface Tree Name SetMethod)
         → interface_of name under ≡ Some shown → (shown.flag ≡ true) ↔ (under ≡ predeclared Comparable) }
+{}
+
+/// The methods of a type set stand in their order, and are the first of each key that was met.
+pub fn the_first_of_a_key_counts()
+    ensures sorted { (met : List SetMethod) → Ascend (with_methods met []) }
+    ensures first { (met : List SetMethod) (method : SetMethod) → Contains (with_methods met []) method
+        → first_of_key method met ≡ Some method }
+    ensures all { (met : List SetMethod) (method : SetMethod) → Contains met method
+        → list_any (same_key method) (with_methods met []) ≡ true }
 {}
 
 /// The terms that two elements leave are those that one of each have in common, and all of those: of two terms the one

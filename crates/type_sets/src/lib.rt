@@ -5,6 +5,6 @@
 mod laws;
 
 pub use laws::{
-    each_interface_is_opened_once, terms_are_those_in_common, the_flag_is_that_of_comparable,
-    what_is_opened_gives_the_set,
+    each_interface_is_opened_once, terms_are_those_in_common, the_first_of_a_key_counts,
+    the_flag_is_that_of_comparable, what_is_opened_gives_the_set,
 };

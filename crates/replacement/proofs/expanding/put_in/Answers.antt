@@ -1,4 +1,4 @@
-use Rattle.std.proofs.Common.{rules, false, ◌≡◌, ◌<◌, [], ◌∷◌, Ok, map, length, ap, sym, ◌∙◌, arith}
+use Rattle.std.proofs.Common.{rules, false, ◌≡◌, [], ◌∷◌, Ok, map, length, ap, sym, ◌∙◌, arith}
 use Rattle.std.specs.Prelude.{◌==◌}
 use Rattle.std.proofs.lemmas.Bool.{eqb-false}
 use Rattle.std.proofs.lemmas.List.{length-map}

@@ -7,7 +7,7 @@ use Rattle.type_terms.specs.declared.declarations.DeclNode.TheVariants.{Alias}
 use Rattle.type_terms.specs.Declarations.{decl_of}
 use Rattle.type_terms.specs.Denotation.{tree}
 use Rattle.type_terms.specs.DeclarationRules.{IsTypeParameter}
-use Rattle.replacement.specs.Expansion.{then, put_each, alias_side, alias_right}
+use Rattle.replacement.specs.Expansion.{then, put_each, alias_side}
 use Rattle.replacement.specs.Calls.{applied, GivesSide, AddsSide}
 use Rattle.replacement.proofs.KeptLemmas.{stops_more, kept_more, side_gives, side_kept}
 use Rattle.replacement.proofs.ParameterLemmas.{alias_parameters, side_is}

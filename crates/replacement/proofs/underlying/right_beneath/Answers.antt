@@ -1,4 +1,4 @@
-use Rattle.std.proofs.Common.{rules, ◌≡◌, Some, ap, sym, ◌∙◌, subst}
+use Rattle.std.proofs.Common.{◌≡◌, Some, ap, sym, ◌∙◌, subst}
 use Rattle.std.specs.Prelude.{option_map, IsSomeAnd}
 use Rattle.type_terms.specs.Denotation.{tree}
 use Rattle.replacement.specs.Expansion.{defined_use, defined_right}

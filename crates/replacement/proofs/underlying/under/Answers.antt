@@ -1,4 +1,3 @@
-use Rattle.std.proofs.Common.{◌≡◌, Some, ap, sym, ◌∙◌, subst}
 use Rattle.std.proofs.lemmas.Result.{err_from_is_err_and}
 use Rattle.type_terms.specs.Denotation.{tree}
 use Rattle.replacement.proofs.UnderlyingLemmas.{under_stops, under_first, under_gives, under_kept}
