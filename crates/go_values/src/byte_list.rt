@@ -1,4 +1,4 @@
-ghost use Rattle.std.specs.Prelude.{◌≡◌, ℕ, List, [], IfOk, nat_eq};
+ghost use Rattle.std.specs.Prelude.{◌≡◌, ◌≤◌, ℕ, List, [], IfOk, nat_eq, length};
 ghost use Rattle.std.specs.Ordering.{nat_cmp, as_partial_cmp};
 ghost use Rattle.std.specs.Cmp.{partial_order_from_own_ties};
 ghost use Rattle.std.specs.Cmp.Lexicographic.{pointwise, slice_cmp};
@@ -11,52 +11,102 @@ use std::cmp::Ordering;
 use std::default::MadeWith;
 use std::hash::{Hash, Hasher};
 use std::marker::Model;
+use std::sync::ArcSlice;
+
+/// The most bytes of a text that stand in the value itself.
+const ROOM: usize = 30;
+
+/// Where the bytes of a text are.
+#[derive(Debug, Drop)]
+enum Stored {
+    /// The first `len` of the room.
+    Short { len: u8, room: [u8; ROOM] },
+    /// Shared by the clones of a text.
+    Shared(ArcSlice<u8>),
+    /// What was given as a vector.
+    Owned(Vec<u8>),
+}
 
 /// An owned text of export data: a name, a path, a tag or a file's name. Any bytes are allowed, so it need
-/// not be UTF-8. A contract sees the list of them. The empty one takes no memory. It is compared bytewise,
-/// as Go compares strings, and stands in maps as an owned key.
+/// not be UTF-8. A contract sees the list of them. It is compared bytewise, as Go compares strings, and stands
+/// in maps as an owned key. Up to 30 bytes stand in the value itself and take no memory; a longer text is
+/// shared by its clones.
 #[derive(Debug, Drop)]
 pub struct Bytes {
-    items: Vec<u8>,
+    stored: Stored,
 }
 
 impl Model for Bytes {
+    ghost use Rattle.std.specs.Prelude.{List, ℕ};
+    ghost use Rattle.go_values.specs.Stored.{bytes_of, IsStored};
+
     ghost Value = { List ℕ };
 
-    ghost view = { λ bytes. bytes.items.items };
+    ghost view = { λ bytes. bytes_of bytes.stored };
+
+    ghost invariant = { λ bytes. IsStored bytes.stored };
 }
 
 impl Bytes {
     /// The empty text. Takes no memory.
-    pub fn new(alloc: Global) -> Bytes
+    pub fn new(_alloc: Global) -> Bytes
         ensures { result ≡ [] }
     {
-        Bytes {
-            items: Vec::new(alloc),
-        }
+        Bytes::short(&[])
     }
 
-    /// A copy of the bytes of a slice, in memory of just their length.
+    /// A copy of the bytes of a slice.
+    #[tactic(auto, unfolding(crate::specs::Stored::bytes_of, crate::specs::Stored::IsStored))]
     pub fn from_slice(alloc: Global, bytes: &[u8]) -> Result<Bytes, AllocError>
         ensures { IfOk result (λ copy. copy ≡ bytes.now) }
     {
+        if bytes.len() <= ROOM {
+            return Ok(Bytes::short(bytes));
+        }
         Ok(Bytes {
-            items: Vec::from_slice(alloc, bytes)?,
+            stored: Stored::Shared(ArcSlice::from_slice(alloc, bytes)?),
         })
     }
 
+    /// A short text, which takes no memory.
+    #[tactic(auto, unfolding(crate::specs::Stored::bytes_of, crate::specs::Stored::IsStored))]
+    fn short(bytes: &[u8]) -> Bytes
+        requires { length bytes.now ≤ 30 }
+        ensures { result ≡ bytes.now }
+    {
+        let mut room = [0; ROOM];
+        room[..bytes.len()].copy_from_slice(bytes);
+        Bytes {
+            stored: Stored::Short {
+                len: bytes.len() as u8,
+                room,
+            },
+        }
+    }
+
     /// The bytes of a vector, as they are. Takes no memory.
+    #[tactic(auto, unfolding(crate::specs::Stored::bytes_of, crate::specs::Stored::IsStored))]
     pub fn from_vec(items: Vec<u8>) -> Bytes
         ensures { result ≡ items.items }
     {
-        Bytes { items }
+        if items.len() <= ROOM {
+            return Bytes::short(items.as_slice());
+        }
+        Bytes {
+            stored: Stored::Owned(items),
+        }
     }
 
     /// Lends the bytes.
+    #[tactic(auto, unfolding(crate::specs::Stored::bytes_of, crate::specs::Stored::IsStored))]
     pub fn as_slice(&self) -> &[u8]
         ensures { result.now ≡ self.now }
     {
-        self.items.as_slice()
+        match &self.stored {
+            Stored::Short { len, room } => &room[..*len as usize],
+            Stored::Shared(text) => text.as_slice(),
+            Stored::Owned(text) => text.as_slice(),
+        }
     }
 }
 
@@ -74,7 +124,7 @@ impl PartialEq for Bytes {
     ghost laws = { Prim.search (comparing, rules) };
 
     fn eq(&self, other: &Bytes) -> bool {
-        self.items == other.items
+        self.as_slice() == other.as_slice()
     }
 }
 
@@ -102,7 +152,7 @@ impl Ord for Bytes {
     ghost matches_eq = { Prim.search (comparing, rules) };
 
     fn cmp(&self, other: &Bytes) -> Ordering {
-        self.items.cmp(&other.items)
+        self.as_slice().cmp(other.as_slice())
     }
 }
 
@@ -112,16 +162,25 @@ impl Hash for Bytes {
     ghost respects_eq = { Prim.search (hashing, rules) };
 
     fn hash<H: Hasher>(&self, state: &mut H) {
-        self.items.hash(state);
+        self.as_slice().hash(state);
     }
 }
 
 impl Clone for Bytes {
     ghost is_clone = { λ bytes copy. copy ≡ bytes };
 
+    #[tactic(auto, unfolding(crate::specs::Stored::bytes_of, crate::specs::Stored::IsStored))]
     fn clone(&self) -> Result<Bytes, AllocError> {
-        Ok(Bytes {
-            items: self.items.clone()?,
-        })
+        let stored = match &self.stored {
+            Stored::Short { len, room } => Stored::Short {
+                len: *len,
+                room: *room,
+            },
+            Stored::Shared(text) => Stored::Shared(text.clone()?),
+            Stored::Owned(text) => {
+                return Bytes::from_slice(*text.allocator(), text.as_slice());
+            }
+        };
+        Ok(Bytes { stored })
     }
 }

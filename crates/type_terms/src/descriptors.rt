@@ -6,11 +6,11 @@ use go_values::{Bytes, QName};
 use std::mem::size_of;
 
 // So that a node of a pointer doesn't grow with what structs and signatures hold.
-const _: () = prove!(size_of::<Node>() == 88);
+const _: () = prove!(size_of::<Node>() == 96);
 
 /// A type, whose parts are nodes of the same arena. Defined types, aliases and type parameters hold their names
 /// alone. The first text of a function, a struct and an interface is the path of the package in which the literal
-/// stands. A node takes 88 bytes, beside what its texts and lists hold.
+/// stands. A node takes 96 bytes, beside what its texts and lists hold.
 #[derive(Clone, Debug, Drop, PartialEq, Eq, Hash)]
 pub enum Node {
     Predeclared(Basic),
