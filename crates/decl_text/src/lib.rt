@@ -21,4 +21,4 @@ pub use laws::{
     a_finished_type_adds_nothing, a_walk_finishes_parts_first, each_line_is_of_a_type_referred_to,
     each_type_referred_to_has_a_number, types_of_one_number_have_one_line,
 };
-pub use rendering::render;
+pub use rendering::{Room, put_decl, render};

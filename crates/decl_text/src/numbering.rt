@@ -12,6 +12,9 @@ use indexmap::{IndexMap, IndexSet};
 use std::alloc::{AllocError, Global};
 use type_terms::{Arena, Node, NodeId};
 
+/// The most numbers whose memory is kept for the next.
+const KEPT: usize = 1_000;
+
 /// The numbers that types were given, and the lines in the order of their numbers. Types are nodes of one arena, to
 /// which each call is given it.
 #[derive(Drop)]
@@ -42,6 +45,19 @@ impl Numbering {
         }
     }
 
+    /// Forgets all numbers. It keeps the memory for a few, so that it takes no longer than giving them took.
+    pub fn clear(&mut self, alloc: Global)
+        ensures none { (nodes : _) → numbers_at nodes self.new ≡ no_numbers }
+        ensures there { (nodes : _) → StandsIn nodes self.new }
+    {
+        if self.numbers.len() > KEPT {
+            *self = Numbering::new(alloc);
+            return;
+        }
+        self.numbers.clear();
+        self.lines.clear();
+    }
+
     /// Whether a type goes by its name or has a number.
     pub fn is_settled(&self, arena: &Arena, id: NodeId) -> bool
         requires there { id < length arena.now.nodes }
@@ -55,8 +71,14 @@ impl Numbering {
         has_name || has_number
     }
 
-    /// Finishes a type, whose parts have been finished: it gets the number of its line.
-    pub fn finish(&mut self, alloc: Global, arena: &Arena, id: NodeId) -> Result<(), AllocError>
+    /// Finishes a type, whose parts have been finished: it gets the number of its line, which is made in the room.
+    pub fn finish(
+        &mut self,
+        alloc: Global,
+        arena: &Arena,
+        id: NodeId,
+        room: &mut Vec<u8>,
+    ) -> Result<(), AllocError>
         requires there { id < length arena.now.nodes }
         requires stands { StandsIn arena.now.nodes self.old }
         ensures numbers { OnOk result (numbers_at arena.now.nodes self.new
@@ -66,14 +88,20 @@ impl Numbering {
         if self.is_settled(arena, id) {
             return Ok(());
         }
-        let line = self.line_of(alloc, arena, id)?;
+        let line = self.line_of(alloc, arena, id, room)?;
         let (number, _) = self.lines.insert_full(line)?;
         self.numbers.insert(id, number)?;
         Ok(())
     }
 
     /// The line of a type, whose parts have been finished.
-    fn line_of(&self, alloc: Global, arena: &Arena, id: NodeId) -> Result<Bytes, AllocError>
+    fn line_of(
+        &self,
+        alloc: Global,
+        arena: &Arena,
+        id: NodeId,
+        room: &mut Vec<u8>,
+    ) -> Result<Bytes, AllocError>
         requires there { id < length arena.now.nodes }
         requires stands { StandsIn arena.now.nodes self.now }
         ensures { IfOk result (λ line.
@@ -83,8 +111,8 @@ impl Numbering {
             arena,
             numbers: &self.numbers,
         };
-        let mut line = Vec::new(alloc);
-        put_type(&mut line, arena.node(id), &names)?;
-        Ok(Bytes::from_vec(line))
+        room.clear();
+        put_type(room, arena.node(id), &names)?;
+        Ok(Bytes::from_slice(alloc, room.as_slice())?)
     }
 }

@@ -6,12 +6,27 @@ ghost use Rattle.decl_text.specs.DeclText.{number_line, number_lines, decl_text}
 
 use crate::decls::{put_first_line, put_method_lines};
 use crate::references::References;
-use crate::walking::number_types;
+use crate::walking::Walk;
 use crate::words::put_decimal;
 use go_values::{Bytes, QName};
 use indexmap::IndexSet;
 use std::alloc::{AllocError, Global};
-use type_terms::{Arena, DeclNode, push_decl};
+use type_terms::{Arena, DeclNode};
+
+/// The room in which the texts of declarations are made, one after the other. It keeps its memory between them.
+#[derive(Drop)]
+pub struct Room {
+    walk: Walk,
+}
+
+impl Room {
+    /// Takes no memory.
+    pub fn new(alloc: Global) -> Room {
+        Room {
+            walk: Walk::new(alloc),
+        }
+    }
+}
 
 /// The text of a declaration, whose types are nodes of the arena, with its line feeds: the first line, a line for each
 /// number, and a line for each method. It takes time for the types that are reached, their uses and the text, however
@@ -25,18 +40,34 @@ pub fn render(
     requires there { AllBelow (length arena.now.nodes) (decl_nodes decl.now) }
     ensures text { IfOk result (λ text. text.items ≡ decl_text q.now (decl_of arena.now.nodes decl.now)) }
 {
-    let mut types = Vec::new(alloc);
-    push_decl(decl, &mut types)?;
-    let numbering = number_types(alloc, arena, &mut types)?;
+    let mut text = Vec::new(alloc);
+    put_decl(alloc, &mut Room::new(alloc), &mut text, q, decl, arena)?;
+    Ok(text)
+}
+
+/// Adds the text of a declaration, as `render` gives it, and uses a room for it.
+pub fn put_decl(
+    alloc: Global,
+    room: &mut Room,
+    text: &mut Vec<u8>,
+    q: &QName,
+    decl: &DeclNode,
+    arena: &Arena,
+) -> Result<(), AllocError>
+    requires there { AllBelow (length arena.now.nodes) (decl_nodes decl.now) }
+    ensures text { OnOk result (text.new.items
+        ≡ text.old.items ++ decl_text q.now (decl_of arena.now.nodes decl.now)) }
+{
+    room.walk.number_types(alloc, arena, decl)?;
+    let numbering = &room.walk.numbering;
     let names = References {
         arena,
         numbers: &numbering.numbers,
     };
-    let mut text = Vec::new(alloc);
-    put_first_line(&mut text, q, decl, &names)?;
-    put_number_lines(&mut text, &numbering.lines)?;
-    put_method_lines(&mut text, decl, &names)?;
-    Ok(text)
+    put_first_line(text, q, decl, &names)?;
+    put_number_lines(text, &numbering.lines)?;
+    put_method_lines(text, decl, &names)?;
+    Ok(())
 }
 
 /// Adds a line for each number.

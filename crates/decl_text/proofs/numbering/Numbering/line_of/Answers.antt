@@ -9,4 +9,4 @@ returns c =
     let nodes = c.args.arena.now.nodes in
     let numbers = c.args.self.now.numbers.entries in
     let text = node_line (node_reference nodes numbers) c.node.result.now in
-    c.from_vec.ensures ∙ c.in_ok-put_type.ensures ∙ ap (λ front. front ++ text) c.new-line.ensures.items ∙ sym (line_at nodes numbers c.args.id c.node.result.now c.node.ensures.denotes)
+    c.in_ok-from_slice.ensures ∙ c.as_slice.ensures.value ∙ c.in_ok-put_type.ensures ∙ ap (λ front. front ++ text) c.clear.ensures.items ∙ sym (line_at nodes numbers c.args.id c.node.result.now c.node.ensures.denotes)
