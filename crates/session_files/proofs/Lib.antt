@@ -6,3 +6,5 @@ mod ComingDown
 mod Outcomes
 mod OpenLemmas
 mod LoadingLemmas
+mod Ways
+mod PackageLemmas

@@ -27,8 +27,8 @@ abbrev pub IsUnknown : List Opened → List ℕ → List ℕ → Type 0
 IsUnknown files path name =
     (file number offset : ℕ) (o : Opened) → slice_get files file ≡ Some o → ListsAt o path name number offset → ⊥
 
--- The name is that of the first file that lists it: its number in the session, the name's number in its index, and where
--- its declaration stands there.
+-- The name is that of the first file that lists it: the file's number in the session, the name's number in its index,
+-- and where its declaration stands there.
 pub record StandsIn (files : List Opened) (path name : List ℕ) (file number : ℕ) (o : Opened) (offset : ℕ)
     : Type 0 where
   pub there : slice_get files file ≡ Some o

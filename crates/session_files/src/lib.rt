@@ -5,9 +5,12 @@ mod files;
 mod laws;
 mod limits;
 mod loading;
+mod names;
+mod packages;
 mod session;
 mod sources;
 
+pub use files::Place;
 pub use laws::{names_come_down, one_answer};
 pub use limits::{MOST_BYTES, MOST_FILES};
 pub use loading::LoadError;

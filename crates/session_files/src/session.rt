@@ -1,11 +1,14 @@
 //! Sessions of files.
 
 ghost use Rattle.std.specs.Prelude.{◌≡◌, ◌≤◌, length, map, option_map, slice_get, IfOk, IfErr, IfSome, IfNone};
-ghost use Rattle.session_files.specs.Sessions.{IsUnknown, Stands};
+ghost use Rattle.session_files.specs.Sessions.{IsUnknown, Stands, all_listed};
+ghost use Rattle.session_files.specs.OpenSessions.{IsPlace};
+ghost use Rattle.session_files.specs.Answers.{packages};
 ghost use Rattle.session_files.specs.Loading.{word_of, AreTaken, IsRefused, IsCause};
 
-use crate::files::{SessionFile, find_in};
+use crate::files::{Place, SessionFile, count_listed, place_in};
 use crate::loading::{LoadError, take_all_in};
+use crate::packages::package_in;
 use crate::sources::Source;
 use name_index::Image;
 use outside::Files;
@@ -73,11 +76,34 @@ impl Session {
         Some(self.files.get(file as usize)?.label.as_str())
     }
 
+    /// How many names its files list together, each as often as a file lists it.
+    pub fn listed_count(&self) -> u64
+        ensures { result ≡ length (all_listed self.now) }
+    {
+        count_listed(&self.files)
+    }
+
     /// The number of the first file that lists the name, and the name's number in its index.
     pub fn find(&self, path: &[u8], name: &[u8]) -> Option<(u32, u32)>
         ensures found { IfSome result (λ at. Stands self.now path.now name.now at.0 at.1) }
         ensures none { IfNone result (IsUnknown self.now path.now name.now) }
     {
-        find_in(&self.files, path, name)
+        let place = self.place_of(path, name)?;
+        Some((place.file, place.number))
+    }
+
+    /// Where the first file that lists the name has it.
+    pub fn place_of(&self, path: &[u8], name: &[u8]) -> Option<Place<'_>>
+        ensures found { IfSome result (IsPlace self.now path.now name.now) }
+        ensures none { IfNone result (IsUnknown self.now path.now name.now) }
+    {
+        place_in(&self.files, path, name)
+    }
+
+    /// The name of the package with the path, by the first file whose index lists it.
+    pub fn package(&self, path: &[u8]) -> Option<&[u8]>
+        ensures { option_map (λ name. name.now) result ≡ packages self.now path.now }
+    {
+        package_in(&self.files, path)
     }
 }

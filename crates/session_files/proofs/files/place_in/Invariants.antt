@@ -1,7 +1,7 @@
 use Rattle.std.proofs.Common.{◌≡◌, ℕ, ◌<◌, Some, slice_get}
 use Rattle.session_files.specs.Sessions.{Opened, ListsAt}
 use Rattle.session_files.specs.OpenSessions.{all_opened}
-use Rattle.session_files.proofs.files.find_in.Given as goal
+use Rattle.session_files.proofs.files.place_in.Given as goal
 
 -- No file so far lists the name.
 abbrev pub invariant-loop-file : goal.invariant-loop-file
