@@ -4,3 +4,10 @@ pub mod InsideLemmas
 pub mod BaseReaders
 pub mod DescriptorReaders
 pub mod DeclarationReaders
+pub mod SameReaders
+pub mod BlockStays
+pub mod Settling
+pub mod PartStays
+pub mod DeclStays
+pub mod DeclInside
+pub mod DeclLocality

@@ -1,1 +1,2 @@
 pub mod LocalReaders
+pub mod LongerFiles

@@ -1,11 +1,17 @@
 //! Laws of the readers of declarations, each the contract of a function that does nothing.
 
+ghost use Rattle.std.specs.Prelude.{◌≡◌, ◌+◌, ◌≤◌, ℕ, List, length, false, Ok};
+ghost use Rattle.wire_bytes.specs.declared.fault.ByteFault.{ByteFault};
+ghost use Rattle.wire_bytes.specs.declared.fault.ByteFault.TheVariants.{Ended};
+ghost use Rattle.wire_bytes.specs.Local.{is_ended, AreBytes, IsAmong};
+ghost use Rattle.type_terms.specs.Declarations.{Decl};
 ghost use Rattle.decl_spelling.specs.Constants.{Spelling, value_at};
-ghost use Rattle.decl_spelling.specs.Declarations.{head_at, receiver_at};
+ghost use Rattle.decl_spelling.specs.Declarations.{head_at, receiver_at, decl_at, FirstFault};
 ghost use Rattle.decl_spelling.specs.Descriptors.{flat_at};
 ghost use Rattle.decl_spelling.specs.Reading.{list_at};
-ghost use Rattle.decl_spelling.specs.Sections.{Sections};
+ghost use Rattle.decl_spelling.specs.Sections.{Sections, Basics};
 ghost use Rattle.decl_locality.specs.LocalReaders.{IsLocal};
+ghost use Rattle.decl_locality.specs.LongerFiles.{with_behind};
 
 /// Reading a block's own bytes depends only on those up to where it ends or its fault is met: a descriptor, and of a
 /// declaration the head, the methods and the value of a constant. What was read stays, whatever follows it, and so does
@@ -16,4 +22,23 @@ pub fn blocks_are_local()
     ensures head { (src : Sections) → IsLocal (head_at src) }
     ensures methods { (src : Sections) → IsLocal (list_at (receiver_at src)) }
     ensures value { (src : Sections) (spelling : Spelling) → IsLocal (value_at src spelling) }
+{}
+
+/// A declaration and its first fault depend only on the bytes up to where it ends or the fault is met: both stay where
+/// the data section goes on, and the fault stands at a byte of it, unless it is that the section ends. This stands at
+/// its end, and comes only where more bytes give another answer.
+pub fn declarations_are_local()
+    ensures read { (src : Sections) (basics : Basics) (offset : ℕ) (decl : Decl) (more : List ℕ)
+        → decl_at src basics offset ≡ Ok decl → decl_at (with_behind src more) basics offset ≡ Ok decl }
+    ensures stays { (src : Sections) (basics : Basics) (offset : ℕ) (fault : ByteFault) (more : List ℕ)
+        → FirstFault src basics offset fault → is_ended fault ≡ false
+        → FirstFault (with_behind src more) basics offset fault }
+    ensures inside { (src : Sections) (basics : Basics) (offset : ℕ) (fault : ByteFault)
+        → FirstFault src basics offset fault → is_ended fault ≡ false
+        → IsAmong src.body_at (src.body_at + length src.body) fault }
+    ensures end { (src : Sections) (basics : Basics) (offset at : ℕ) → FirstFault src basics offset (Ended at)
+        → at ≡ src.body_at + length src.body }
+    ensures goes_on { (src : Sections) (basics : Basics) (offset at : ℕ) → offset ≤ length src.body
+        → FirstFault src basics offset (Ended at) → (more : List ℕ) × AreBytes more
+        × ((at : ℕ) → FirstFault (with_behind src more) basics offset (Ended at) → ⊥) }
 {}
