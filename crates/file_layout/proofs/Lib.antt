@@ -1,0 +1,11 @@
+pub mod Examples
+pub mod ItemsHere
+pub mod WholeHere
+pub mod ItemsStand
+pub mod DescriptorsHere
+pub mod FormsHere
+pub mod ItemTypes
+pub mod Laying
+pub mod SpelledBlocks
+pub mod Risen
+pub mod WholeFile
