@@ -8,15 +8,15 @@ use Rattle.std.proofs.Common.{rules, Err, ap, refl, ◌∙◌}
 use Rattle.std.proofs.lemmas.Result.{err_from_is_err_and}
 use Rattle.type_terms.specs.Declarations.{constant_of}
 use Rattle.decl_spelling.specs.Constants.{basic_type}
-use Rattle.decl_spelling.specs.Declarations.{read}
+use Rattle.decl_spelling.specs.Declarations.{read, has_methods, methods_of}
 use Rattle.decl_spelling.specs.Tables.{type_named}
 use Rattle.decl_reader.specs.declared.fault.DeclFault.{DeclFault}
 use Rattle.decl_reader.specs.Faults.{of_read}
 use Rattle.decl_reader.specs.Blocks.{table_of}
 use Rattle.decl_reader.specs.Calls.{sections_of, ahead_of}
-use Rattle.decl_reader.specs.Wholes.{value_by}
+use Rattle.decl_reader.specs.Wholes.{methods_by, value_by}
 use Rattle.decl_reader.proofs.DescentLoop.{never_full}
-use Rattle.decl_reader.proofs.WholeLemmas.{value_then, then_fault, fault_as}
+use Rattle.decl_reader.proofs.WholeLemmas.{methods_then, value_then, then_fault, fault_as}
 use Rattle.decl_reader.proofs.reading.Reading.read_rest.Goals as goal
 
 pub returns-in_err-value-in-Constant-clause-exact : goal.returns-in_err-value-in-Constant-clause-exact
@@ -44,6 +44,18 @@ returns-in_err-value-in-Constant-clause-goes_on g c =
       ready = c.requires.ready;
       counted = refl;
     }
+
+pub returns-in_err-methods-in-Defined-clause-exact : goal.returns-in_err-methods-in-Defined-clause-exact
+returns-in_err-methods-in-Defined-clause-exact g c =
+    let src = sections_of c.args.parts.now in
+    let done = table_of c.args.self.now.arena.now.nodes c.args.self.now.table.now in
+    let a = ahead_of c.args.block.now in
+    let k = c.in-Defined in
+    let own = has_methods (type_named src.version done k.underlying) in
+    let e = c.in_err-methods-in-Defined.field-0.0 in
+    let p = err_from_is_err_and c.from_residual.result c.from_residual.ensures.1 in
+    rw (p.1, p.2, k.is) (fault_as _ _ e (methods_then src c.args.offset k.pos k.tparams.items k.underlying a done own)
+    (then_fault (methods_by src c.args.offset a done own) (methods_of k.pos k.tparams.items k.underlying) e c.in_err-methods-in-Defined.ensures.exact))
 
 pub returns-in_err-methods-in-Defined-clause-adds : goal.returns-in_err-methods-in-Defined-clause-adds
 returns-in_err-methods-in-Defined-clause-adds g c =
