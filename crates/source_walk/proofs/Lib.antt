@@ -1,0 +1,4 @@
+pub mod SeenLaws
+pub mod RowLaws
+pub mod SigLaws
+pub mod TopLaws

@@ -1,0 +1,4 @@
+pub mod Spots
+pub mod Visits
+pub mod Seen
+pub mod Rows
