@@ -17,7 +17,7 @@ use std::sync::ArcSlice;
 const ROOM: usize = 30;
 
 /// Where the bytes of a text are.
-#[derive(Debug, Drop)]
+#[derive(Debug)]
 enum Stored {
     /// The first `len` of the room.
     Short { len: u8, room: [u8; ROOM] },
@@ -25,6 +25,17 @@ enum Stored {
     Shared(ArcSlice<u8>),
     /// What was given as a vector.
     Owned(Vec<u8>),
+}
+
+// One call, so that code which drops a text has no case for each of these.
+impl Drop for Stored {
+    fn drop(self) {
+        match self {
+            Stored::Short { len: _, room: _ } => {}
+            Stored::Shared(text) => drop(text),
+            Stored::Owned(text) => drop(text),
+        }
+    }
 }
 
 /// An owned text of export data: a name, a path, a tag or a file's name. Any bytes are allowed, so it need
