@@ -13,7 +13,7 @@ use Rattle.type_terms.specs.Declarations.{Decl, ReceiverOf, form_map, function_o
 use Rattle.environments.specs.References.{tree_references, base_references, types_references, params_references, fields_references, methods_references, terms_references, argument_count, references, reference_names}
 use Rattle.environments.specs.declared.mentions.Reference.{Reference}
 use Rattle.written_types.specs.ByName.{Method, is_before, with_method, by_name}
-use Rattle.written_types.specs.Written.{element, written, types_written, elements_written, params_written, fields_written, methods_written, terms_written, decl_written}
+use Rattle.written_types.specs.Written.{Target, position_written, element, written, types_written, elements_written, params_written, fields_written, methods_written, terms_written, decl_written}
 
 module _ {X : Type 0} where
   -- the same members
@@ -88,9 +88,9 @@ methods_back (methods origin pos name ins outs variadic rest) = λ i. (params_ba
 
 -- ---- types
 
-arguments_stay : (xs : Trees) → argument_count (types_written xs) ≡ argument_count xs
-arguments_stay no_types = refl
-arguments_stay (types type rest) = ap (λ (n : ℕ). 1 + n) (arguments_stay rest)
+arguments_stay : (target : Target) (xs : Trees) → argument_count (types_written target xs) ≡ argument_count xs
+arguments_stay target no_types = refl
+arguments_stay target (types type rest) = ap (λ (n : ℕ). 1 + n) (arguments_stay target rest)
 
 single : (xs : Refs) → Same xs (xs ++ [])
 single xs x = (λ has. Contains-append_left xs [] x has, λ has. by_place x (Contains-append_cases xs [] x has))
@@ -124,77 +124,74 @@ ordered xs refs same =
     in_turn (all_refs (by_name (method_list xs))) (all_refs (method_list xs)) refs (by_name_refs (method_list xs)) (subst (λ (r : Refs). Same r refs) (sym (methods_back xs)) same)
 
 mutual
-  pub same_refs : (type : Tree) → Same (tree_references (written type)) (tree_references type)
-  same_refs (predeclared basic) = itself []
-  same_refs (named q) = itself (tree_references (named q))
-  same_refs (parameter q) = itself (tree_references (parameter q))
-  same_refs (alias q) = itself (tree_references (alias q))
-  same_refs (pointer type) = same_refs type
-  same_refs (slice type) = same_refs type
-  same_refs (array size type) = same_refs type
-  same_refs (chan dir type) = same_refs type
-  same_refs (map_type key type) = joined (tree_references (written key)) (tree_references key) (tree_references (written type)) (tree_references type) (same_refs key) (same_refs type)
-  same_refs (func home ins outs variadic) = joined (params_references (params_written ins)) (params_references ins) (params_references (params_written outs)) (params_references outs) (same_params ins) (same_params outs)
-  same_refs (struct home inner) = same_fields inner
-  same_refs (interface home embedded inner) =
-      joined (types_references (elements_written embedded)) (types_references embedded) (methods_references (methods_of (by_name (method_list (methods_written inner))))) (methods_references inner)
-      (same_elements embedded) (ordered (methods_written inner) (methods_references inner) (same_methods inner))
-  same_refs (instance base args) =
-      joined (types_references (types_written args)) (types_references args) (base_references base (argument_count (types_written args))) (base_references base (argument_count args)) (same_types args)
-      (subst (λ (n : ℕ). Same (base_references base n) (base_references base (argument_count args))) (sym (arguments_stay args)) (itself (base_references base (argument_count args))))
-  same_refs (union inner) = same_terms inner
+  pub same_refs : (target : Target) (type : Tree) → Same (tree_references (written target type)) (tree_references type)
+  same_refs target (predeclared basic) = itself []
+  same_refs target (named q) = itself (tree_references (named q))
+  same_refs target (parameter q) = itself (tree_references (parameter q))
+  same_refs target (alias q) = itself (tree_references (alias q))
+  same_refs target (pointer type) = same_refs target type
+  same_refs target (slice type) = same_refs target type
+  same_refs target (array size type) = same_refs target type
+  same_refs target (chan dir type) = same_refs target type
+  same_refs target (map_type key type) = joined (tree_references (written target key)) (tree_references key) (tree_references (written target type)) (tree_references type) (same_refs target key) (same_refs target type)
+  same_refs target (func home ins outs variadic) = joined (params_references (params_written target ins)) (params_references ins) (params_references (params_written target outs)) (params_references outs) (same_params target ins) (same_params target outs)
+  same_refs target (struct home inner) = same_fields target inner
+  same_refs target (interface home embedded inner) =
+      joined (types_references (elements_written target embedded)) (types_references embedded) (methods_references (methods_of (by_name (method_list (methods_written target inner))))) (methods_references inner)
+      (same_elements target embedded) (ordered (methods_written target inner) (methods_references inner) (same_methods target inner))
+  same_refs target (instance base args) =
+      joined (types_references (types_written target args)) (types_references args) (base_references base (argument_count (types_written target args))) (base_references base (argument_count args)) (same_types target args)
+      (subst (λ (n : ℕ). Same (base_references base n) (base_references base (argument_count args))) (sym (arguments_stay target args)) (itself (base_references base (argument_count args))))
+  same_refs target (union inner) = same_terms target inner
 
-  same_types : (xs : Trees) → Same (types_references (types_written xs)) (types_references xs)
-  same_types no_types = itself []
-  same_types (types type rest) = joined (tree_references (written type)) (tree_references type) (types_references (types_written rest)) (types_references rest) (same_refs type) (same_types rest)
+  same_types : (target : Target) (xs : Trees) → Same (types_references (types_written target xs)) (types_references xs)
+  same_types target no_types = itself []
+  same_types target (types type rest) = joined (tree_references (written target type)) (tree_references type) (types_references (types_written target rest)) (types_references rest) (same_refs target type) (same_types target rest)
 
-  same_elements : (xs : Trees) → Same (types_references (elements_written xs)) (types_references xs)
-  same_elements no_types = itself []
-  same_elements (types type rest) =
-      joined (tree_references (element (written type))) (tree_references type) (types_references (elements_written rest)) (types_references rest)
-      (in_turn (tree_references (element (written type))) (tree_references (written type)) (tree_references type) (element_refs (written type)) (same_refs type)) (same_elements rest)
+  same_elements : (target : Target) (xs : Trees) → Same (types_references (elements_written target xs)) (types_references xs)
+  same_elements target no_types = itself []
+  same_elements target (types type rest) =
+      joined (tree_references (element (written target type))) (tree_references type) (types_references (elements_written target rest)) (types_references rest)
+      (in_turn (tree_references (element (written target type))) (tree_references (written target type)) (tree_references type) (element_refs (written target type)) (same_refs target type)) (same_elements target rest)
 
-  same_params : (xs : Params) → Same (params_references (params_written xs)) (params_references xs)
-  same_params no_params = itself []
-  same_params (params pos name type rest) = joined (tree_references (written type)) (tree_references type) (params_references (params_written rest)) (params_references rest) (same_refs type) (same_params rest)
+  same_params : (target : Target) (xs : Params) → Same (params_references (params_written target xs)) (params_references xs)
+  same_params target no_params = itself []
+  same_params target (params pos name type rest) = joined (tree_references (written target type)) (tree_references type) (params_references (params_written target rest)) (params_references rest) (same_refs target type) (same_params target rest)
 
-  same_fields : (xs : Fields) → Same (fields_references (fields_written xs)) (fields_references xs)
-  same_fields no_fields = itself []
-  same_fields (fields origin pos name type embedded tag rest) =
-      joined (tree_references (written type)) (tree_references type) (fields_references (fields_written rest)) (fields_references rest) (same_refs type) (same_fields rest)
+  same_fields : (target : Target) (xs : Fields) → Same (fields_references (fields_written target xs)) (fields_references xs)
+  same_fields target no_fields = itself []
+  same_fields target (fields origin pos name type embedded tag rest) =
+      joined (tree_references (written target type)) (tree_references type) (fields_references (fields_written target rest)) (fields_references rest) (same_refs target type) (same_fields target rest)
 
-  same_methods : (xs : Methods) → Same (methods_references (methods_written xs)) (methods_references xs)
-  same_methods no_methods = itself []
-  same_methods (methods origin pos name ins outs variadic rest) =
-      joined (params_references (params_written ins) ++ params_references (params_written outs)) (params_references ins ++ params_references outs) (methods_references (methods_written rest)) (methods_references rest)
-      (joined (params_references (params_written ins)) (params_references ins) (params_references (params_written outs)) (params_references outs) (same_params ins) (same_params outs)) (same_methods rest)
+  same_methods : (target : Target) (xs : Methods) → Same (methods_references (methods_written target xs)) (methods_references xs)
+  same_methods target no_methods = itself []
+  same_methods target (methods origin pos name ins outs variadic rest) =
+      joined (params_references (params_written target ins) ++ params_references (params_written target outs)) (params_references ins ++ params_references outs) (methods_references (methods_written target rest)) (methods_references rest)
+      (joined (params_references (params_written target ins)) (params_references ins) (params_references (params_written target outs)) (params_references outs) (same_params target ins) (same_params target outs)) (same_methods target rest)
 
-  same_terms : (xs : Terms) → Same (terms_references (terms_written xs)) (terms_references xs)
-  same_terms no_terms = itself []
-  same_terms (terms tilde type rest) = joined (tree_references (written type)) (tree_references type) (terms_references (terms_written rest)) (terms_references rest) (same_refs type) (same_terms rest)
+  same_terms : (target : Target) (xs : Terms) → Same (terms_references (terms_written target xs)) (terms_references xs)
+  same_terms target no_terms = itself []
+  same_terms target (terms tilde type rest) = joined (tree_references (written target type)) (tree_references type) (terms_references (terms_written target rest)) (terms_references rest) (same_refs target type) (same_terms target rest)
 
 -- ---- declarations
-
-abbrev same_pos : Pos → Pos
-same_pos pos = pos
 
 abbrev same_text : Text → Text
 same_text text = text
 
 module _ (r : Tree → Tree) where
-  receivers_types : (xs : List (ReceiverOf Pos Text Tree)) → flat_map receiver_types (map (receiver_map same_pos same_text r) xs) ≡ map r (flat_map receiver_types xs)
-  receivers_types = parts_of_map (receiver_map same_pos same_text r) r receiver_types receiver_types (λ x. ap (λ (rest : List Tree). r x.recv.type ∷ rest) (sig_types_map same_pos same_text same_text r x.sig))
+  receivers_types : (xs : List (ReceiverOf Pos Text Tree)) → flat_map receiver_types (map (receiver_map position_written same_text r) xs) ≡ map r (flat_map receiver_types xs)
+  receivers_types = parts_of_map (receiver_map position_written same_text r) r receiver_types receiver_types (λ x. ap (λ (rest : List Tree). r x.recv.type ∷ rest) (sig_types_map position_written same_text same_text r x.sig))
 
-  types_of_form : (form : Decl) → form_types (form_map same_pos same_text r form) ≡ map r (form_types form)
-  types_of_form (function_of pos tparams sig) = ap (λ (rest : List Tree). map r tparams ++ rest) (sig_types_map same_pos same_text same_text r sig) ∙ sym (map-append r tparams (sig_types sig))
+  types_of_form : (form : Decl) → form_types (form_map position_written same_text r form) ≡ map r (form_types form)
+  types_of_form (function_of pos tparams sig) = ap (λ (rest : List Tree). map r tparams ++ rest) (sig_types_map position_written same_text same_text r sig) ∙ sym (map-append r tparams (sig_types sig))
   types_of_form (defined_of pos tparams underlying own) =
       ap (λ (rest : List Tree). map r tparams ++ r underlying ∷ rest) (receivers_types own) ∙ sym (map-append r tparams (underlying ∷ flat_map receiver_types own))
   types_of_form (renamed_of pos tparams type) = sym (map-append r tparams (type ∷ []))
   types_of_form _ = refl
 
-all_written : (xs : List Tree) → Same (flat_map tree_references (map written xs)) (flat_map tree_references xs)
-all_written [] = itself []
-all_written (x ∷ xs) = joined (tree_references (written x)) (tree_references x) (flat_map tree_references (map written xs)) (flat_map tree_references xs) (same_refs x) (all_written xs)
+all_written : (target : Target) (xs : List Tree) → Same (flat_map tree_references (map (written target) xs)) (flat_map tree_references xs)
+all_written target [] = itself []
+all_written target (x ∷ xs) = joined (tree_references (written target x)) (tree_references x) (flat_map tree_references (map (written target) xs)) (flat_map tree_references xs) (same_refs target x) (all_written target xs)
 
 names_kept : (xs ys : Refs) → ((x : Reference) → Contains xs x → Contains ys x) → (q : QName) → Contains (map (λ r. r.name) xs) q → Contains (map (λ r. r.name) ys) q
 names_kept xs ys inside q has = let from = named_by xs q has in subst (Contains (map (λ r. r.name) ys)) from.2 (names_there ys from.0 (inside from.0 from.1))
@@ -209,7 +206,7 @@ names_kept xs ys inside q has = let from = named_by xs q has in subst (Contains 
     names_there (z ∷ zs) x (zero, below, is) = (0, omega arith, ap (λ (r : Reference). r.name) is)
     names_there (z ∷ zs) x (suc k, below, is) = Contains-append_right (z.name ∷ []) (map (λ r. r.name) zs) x.name (names_there zs x (k, omega (arith, below), is))
 
-pub same_names : (decl : Decl) (q : QName) → (Contains (reference_names (decl_written decl)) q → Contains (reference_names decl) q) × (Contains (reference_names decl) q → Contains (reference_names (decl_written decl)) q)
-same_names decl q =
-    let same : Same (references (decl_written decl)) (references decl) = subst (λ (ts : List Tree). Same (flat_map tree_references ts) (references decl)) (sym (types_of_form written decl)) (all_written (form_types decl)) in
-    (names_kept (references (decl_written decl)) (references decl) (λ x. (same x).0) q, names_kept (references decl) (references (decl_written decl)) (λ x. (same x).1) q)
+pub same_names : (target : Target) (decl : Decl) (q : QName) → (Contains (reference_names (decl_written target decl)) q → Contains (reference_names decl) q) × (Contains (reference_names decl) q → Contains (reference_names (decl_written target decl)) q)
+same_names target decl q =
+    let same : Same (references (decl_written target decl)) (references decl) = subst (λ (ts : List Tree). Same (flat_map tree_references ts) (references decl)) (sym (types_of_form (written target) decl)) (all_written target (form_types decl)) in
+    (names_kept (references (decl_written target decl)) (references decl) (λ x. (same x).0) q, names_kept (references decl) (references (decl_written target decl)) (λ x. (same x).1) q)
