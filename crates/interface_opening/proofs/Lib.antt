@@ -2,3 +2,4 @@ pub mod OpeningLemmas
 pub mod OpenedLaws
 pub mod RoomLemmas
 pub mod MeetingLemmas
+pub mod ExitLemmas

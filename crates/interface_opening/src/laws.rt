@@ -1,9 +1,10 @@
 //! What comes of opening interfaces, whatever stands for types.
 
-ghost use Rattle.std.specs.Prelude.{◌≡◌, ◌≢◌, ◌≤◌, ℕ, suc, List, [], length, Bool, true, Result, Ok, Err};
+ghost use Rattle.std.specs.Prelude.{◌≡◌, ◌≢◌, ◌≤◌, ℕ, suc, List, [], ◌∷◌, ◌++◌, length, Bool, true, Result, Ok, Err};
 ghost use Rattle.std.specs.List.{All, AllPairs, list_any};
-ghost use Rattle.interface_opening.specs.Elements.{Term, Opened};
-ghost use Rattle.interface_opening.specs.Opening.{Item, opening, none_opened};
+ghost use Rattle.interface_opening.specs.Elements.{Term, Interface, Opened};
+ghost use Rattle.interface_opening.specs.Opening.{Item, goes, stops, opens, step, joining, inside, opened_with};
+ghost use Rattle.interface_opening.specs.Opening.{opening, none_opened};
 ghost use Rattle.interface_opening.specs.Having.{HasAll};
 ghost use Rattle.interface_opening.specs.Terms.{meet_lists};
 ghost use Rattle.interface_opening.specs.Meeting.{IsMeeting};
@@ -64,4 +65,21 @@ pub fn terms_in_common<O: Openable>()
         → All (IsMeeting O.covered xs ys) zs }
     ensures all { (xs ys zs : List (Term O.Ty)) → meet_lists O.same_term O.covered xs ys [] ≡ Ok zs
         → (z : Term O.Ty) → IsMeeting O.covered xs ys z → list_any (O.same_term z) zs ≡ true }
+{}
+
+/// An opening goes item by item. An item that leads to an interface that is new opens it, where one more may be opened,
+/// and what the interface leaves to be done comes before what was left.
+pub fn an_item_at_a_time<O: Openable>()
+    ensures done { (n : ℕ) (s : Opened O.Ty O.Method) → opening O.looks n [] s ≡ Ok s }
+    ensures on { (n : ℕ) (item : Item O.Ty O.Name) (rest : List (Item O.Ty O.Name)) (s t : Opened O.Ty O.Method)
+        → step O.looks item rest s ≡ goes t → opening O.looks n (item ∷ rest) s ≡ opening O.looks n rest t }
+    ensures fault { (n : ℕ) (item : Item O.Ty O.Name) (rest : List (Item O.Ty O.Name)) (s : Opened O.Ty O.Method)
+        (f : O.Fault) → step O.looks item rest s ≡ stops f → opening O.looks n (item ∷ rest) s ≡ Err f }
+    ensures opens { (n : ℕ) (item : Item O.Ty O.Name) (rest : List (Item O.Ty O.Name)) (s t : Opened O.Ty O.Method)
+        (x : O.Ty) (it : Interface O.Ty O.Name O.Method) → step O.looks item rest s ≡ opens x it t
+        → opening O.looks (suc n) (item ∷ rest) s
+        ≡ opening O.looks n (inside O.looks x it ++ (joining O.looks item x ++ rest)) (opened_with O.looks x it t) }
+    ensures full { (item : Item O.Ty O.Name) (rest : List (Item O.Ty O.Name)) (s t : Opened O.Ty O.Method)
+        (x : O.Ty) (it : Interface O.Ty O.Name O.Method) → step O.looks item rest s ≡ opens x it t
+        → opening O.looks 0 (item ∷ rest) s ≡ Err O.looks.too_many }
 {}

@@ -4,4 +4,6 @@
 
 mod laws;
 
-pub use laws::{Openable, each_opened_once, more_room, of_the_opened, terms_in_common};
+pub use laws::{
+    Openable, an_item_at_a_time, each_opened_once, more_room, of_the_opened, terms_in_common,
+};

@@ -26,6 +26,10 @@ pub maps_join : {A B C : Type 0} (f : A → B) (g : B → C) (o : Option A) → 
 maps_join f g (Some x) = refl
 maps_join f g None = refl
 
+pub maps_itself : {A : Type 0} (o : Option A) → option_map (λ (x : A). x) o ≡ o
+maps_itself (Some x) = refl
+maps_itself None = refl
+
 -- the alias or the defined type at the head of an instance, and of what is no instance
 alias_of_instance : (base : Tree) (args : List Tree)
     → alias_use (instance base (types_of args)) ≡ option_map (λ q. record { name = q; args = args }) (alias_name base)

@@ -19,4 +19,4 @@ pub use laws::{
     the_first_of_equal_parameters_counts,
 };
 pub use substituting::substitute;
-pub use underlying::under;
+pub use underlying::{defined_name, right_beneath, under};

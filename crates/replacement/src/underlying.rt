@@ -41,8 +41,9 @@ pub fn under<'a, E: Env<'a>>(
     right_beneath(alloc, env, arena, found)
 }
 
-/// The right side of the defined type at the head, or the type itself where there is none.
-fn right_beneath<'a, E: Env<'a>>(
+/// The right side of the defined type at the head, or the type itself where there is none: the underlying type of a type
+/// that has no alias at its head.
+pub fn right_beneath<'a, E: Env<'a>>(
     alloc: Global,
     env: &mut E,
     arena: &mut Arena,
@@ -68,6 +69,17 @@ fn right_beneath<'a, E: Env<'a>>(
         return Ok(node);
     };
     right_of_defined(alloc, env, arena, &head.name, &head.args)
+}
+
+/// The name of the defined type at the head of a type, if there is one. Takes no memory.
+pub fn defined_name(arena: &Arena, id: NodeId) -> Option<&QName>
+    requires there { id < length arena.now.nodes }
+    ensures { option_map (λ head. head.name) (defined_use (tree arena.now.nodes id)) ≡ option_map (λ q. q.now) result }
+{
+    if let Node::Instance(base, _) = arena.node(id) {
+        return defined_at(arena, *base);
+    }
+    defined_at(arena, id)
 }
 
 /// The defined type at the head of a type, with its arguments.
