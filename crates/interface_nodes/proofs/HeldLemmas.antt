@@ -12,11 +12,12 @@ use Rattle.type_terms.specs.Denotation.{tree}
 use Rattle.type_terms.specs.NodeShapes.{node_shape, method_shape, children}
 use Rattle.type_terms.specs.Shapes.{MethodOf, method_map, method_types, retype}
 use Rattle.type_terms.specs.Shapes as level
-use Rattle.type_terms.specs.Trees.{Text, Tree, Level, tree_of, type_list, method_list, types_of, methods_of}
+use Rattle.code_tables.specs.declared.predeclared.Basic.{Basic}
+use Rattle.type_terms.specs.Trees.{Text, Tree, predeclared, Level, tree_of, type_list, method_list, types_of, methods_of}
 use Rattle.type_terms.specs.TreeLevels.{types_back, level_of-tree_of}
 use Rattle.type_sets.specs.Interfaces.{set_method, element, interface_of}
 use Rattle.interface_nodes.specs.declared.methods.SetMethod.{SetMethod}
-use Rattle.interface_nodes.specs.HeldNodes.{set_method_of, method_meant, method_nodes}
+use Rattle.interface_nodes.specs.HeldNodes.{set_method_of, method_meant, method_nodes, basic_of}
 
 -- the methods of a literal's level
 abbrev level_methods : Level → List (MethodOf Pos Text Text Tree)
@@ -62,3 +63,8 @@ literal_within bound id there node home embedded inner falls is own own_is ids i
     let same : embedded ++ flat_map method_types (map method_shape inner) ≡ ids ++ flat_map method_nodes own =
     (λ i. sym ids_are i ++ (inner_nodes home inner ∙ ap (flat_map method_nodes) (sym own_is)) i) in
     all_weaker (λ n. n < id) (λ n. n < bound) (λ n h. omega (arith, h, there)) (ids ++ flat_map method_nodes own) (subst (AllBelow id) same below)
+
+-- a predeclared type is told by its name
+pub basic_told : (type : Tree) (basic : Basic) → basic_of type ≡ Some basic → type ≡ predeclared basic
+basic_told (predeclared own) basic is = let same : own ≡ basic = cc in ap predeclared same
+basic_told _ basic is = absurd cc

@@ -5,6 +5,7 @@ use Rattle.go_values.specs.declared.qualified.QName.{QName}
 use Rattle.go_values.specs.declared.positions.Pos.{Pos}
 use Rattle.go_values.specs.declared.positions.Pos.TheVariants.{Nowhere}
 use Rattle.code_tables.specs.declared.predeclared.Basic.{Basic}
+use Rattle.code_tables.specs.declared.predeclared.Basic.TheVariants.{Error, String as StringType}
 use Rattle.type_terms.specs.declared.descriptors.Node.{Node}
 use Rattle.type_terms.specs.declared.literals.IMethod.{IMethod}
 use Rattle.type_terms.specs.Denotation.{tree}
@@ -59,3 +60,8 @@ method_nodes x = sig_types (sig_shape x.sig)
 
 abbrev pub held_nodes : Held → List ℕ
 held_nodes x = x.embedded.items ++ flat_map method_nodes x.own.items
+
+-- the types that come to an arena as what a type holds is read
+abbrev pub made_for : Tree → List Tree
+made_for (predeclared Error) = predeclared StringType ∷ []
+made_for _ = []

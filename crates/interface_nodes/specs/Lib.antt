@@ -1,1 +1,2 @@
 pub mod HeldNodes
+pub mod Beneath

@@ -10,7 +10,7 @@ ghost use Rattle.type_terms.specs.Arenas.{AllBelow, Extends};
 ghost use Rattle.type_terms.specs.Denotation.{tree};
 ghost use Rattle.type_terms.specs.Trees.{predeclared};
 ghost use Rattle.type_sets.specs.Interfaces.{interface_of, predeclared_interface};
-ghost use Rattle.interface_nodes.specs.HeldNodes.{meant, basic_of, error_at, held_nodes};
+ghost use Rattle.interface_nodes.specs.HeldNodes.{meant, basic_of, error_at, held_nodes, made_for};
 
 use crate::methods::{SetMethod, error_method, own_methods};
 use code_tables::Basic;
@@ -34,8 +34,8 @@ pub fn held_at(alloc: Global, arena: &mut Arena, under: NodeId) -> Result<Option
         option_map (meant arena.new.nodes name) held ≡ interface_of name (tree arena.old.nodes under)) }
     ensures within { IfOk result (λ held. IfSome held (λ held. AllBelow (length arena.new.nodes) (held_nodes held))) }
     ensures extends { Extends arena.old arena.new }
-    ensures adds { AddsOnly (predeclared StringType ∷ []) arena.old arena.new }
-    ensures outgrown { IsErrOf result ArenaError.Full → Outgrows arena.old (predeclared StringType ∷ []) }
+    ensures adds { AddsOnly (made_for (tree arena.old.nodes under)) arena.old arena.new }
+    ensures outgrown { IsErrOf result ArenaError.Full → Outgrows arena.old (made_for (tree arena.old.nodes under)) }
 {
     if let Some(basic) = basic_at(arena, under) {
         return predeclared_at(alloc, arena, basic);
@@ -79,8 +79,8 @@ fn predeclared_at(
         option_map (meant arena.new.nodes name) held ≡ predeclared_interface name basic) }
     ensures within { IfOk result (λ held. IfSome held (λ held. AllBelow (length arena.new.nodes) (held_nodes held))) }
     ensures extends { Extends arena.old arena.new }
-    ensures adds { AddsOnly (predeclared StringType ∷ []) arena.old arena.new }
-    ensures outgrown { IsErrOf result ArenaError.Full → Outgrows arena.old (predeclared StringType ∷ []) }
+    ensures adds { AddsOnly (made_for (predeclared basic)) arena.old arena.new }
+    ensures outgrown { IsErrOf result ArenaError.Full → Outgrows arena.old (made_for (predeclared basic)) }
 {
     if basic == Basic::Error {
         return Ok(Some(error_held(alloc, arena)?));

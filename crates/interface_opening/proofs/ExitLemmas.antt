@@ -1,5 +1,5 @@
 -- An opening goes item by item.
-use Rattle.std.proofs.Common.{◌≡◌, ℕ, zero, suc, List, [], ◌∷◌, ◌++◌, Ok, Err, refl, ap, ◌∙◌}
+use Rattle.std.proofs.Common.{◌≡◌, ℕ, zero, suc, List, [], ◌∷◌, ◌++◌, Ok, Err, refl, ap}
 use Rattle.interface_opening.specs.Elements.{Interface, Opened, Looks}
 use Rattle.interface_opening.specs.Opening.{Item, goes, stops, opens, step, joining, passed, next, inside, opened_with, at_limit, onward, opening}
 

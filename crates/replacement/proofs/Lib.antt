@@ -5,7 +5,7 @@ mod SearchLemmas
 mod MoveLemmas
 mod MovingLemmas
 mod ExpansionLemmas
-mod KeptLemmas
+pub mod KeptLemmas
 mod ExpandingLemmas
 mod ParameterLemmas
 mod HeadLemmas

@@ -41,8 +41,8 @@ pub fn under<'a, E: Env<'a>>(
     right_beneath(alloc, env, arena, found)
 }
 
-/// The right side of the defined type at the head, or the type itself where there is none: the underlying type of a type
-/// that has no alias at its head.
+/// The right side of the defined type at the head, or the type itself where there is none: the underlying type of a
+/// type that has no alias at its head.
 pub fn right_beneath<'a, E: Env<'a>>(
     alloc: Global,
     env: &mut E,
