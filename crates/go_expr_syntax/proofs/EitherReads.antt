@@ -7,7 +7,7 @@ use Rattle.go_expr_syntax.specs.declared.faults.Fault.{Fault}
 use Rattle.go_expr_syntax.specs.declared.faults.Fault.TheVariants.{Unexpected, Deep, DotImport, Call}
 use Rattle.go_expr_syntax.specs.Reading.{Reply}
 use Rattle.go_expr_syntax.specs.Either.{needed, began_here, or_at, instead_of, after_fault, either}
-use Rattle.go_expr_syntax.proofs.Viable.{ahead, ahead_along, moved, ReadNotOn, ReadsOn, ReadsAt}
+use Rattle.go_expr_syntax.proofs.Viable.{ahead, ahead_along, moved, going, ReadNotOn, ReadsOn, ReadsAt}
 
 -- of two beginnings of a list, the one that leaves less goes on with the other
 pub goes_further : (a b c d : List Symbol) → a ++ b ≡ c ++ d → length d ≤ length b → (mid : List Symbol) × (c ≡ a ++ mid) × (b ≡ mid ++ d)
@@ -82,7 +82,7 @@ either_then p q ts = either (p ts) (q ts)
 abbrev Yields : (X : Type 0) → Fault → Type 0
 Yields X f = (n : ℕ) (second : Reply X) → after_fault (moved f n) second ≡ instead_of (moved f n) n second
 
-module _ {X : Type 0} (F W : List Symbol → X → List Symbol → Type 0) (p q : List Symbol → Reply X) (ts : List Symbol) (f : Fault) (h : ReadNotOn F W p ts f) (yields : Yields X f) where
+module _ {X : Type 0} (F W : List Symbol → X → List Symbol → Type 0) (p q : List Symbol → Reply X) (ts : List Symbol) (f : Fault) (h : ReadNotOn F (going W) p ts f) (yields : Yields X f) where
   -- what both answer, where both are known
   answer_is : (us : List Symbol) (n : ℕ) (second : Reply X) → p us ≡ Err (moved f n) → q us ≡ second → either_then p q us ≡ instead_of (moved f n) n second
   answer_is us n second a b = rw (a, b) (yields n second)
@@ -152,7 +152,7 @@ same_length a b c d e l =
 
 module _ {X : Type 0} (F W : List Symbol → X → List Symbol → Type 0) (q : List Symbol → Reply X) (front : List Symbol) where
   -- where a path is too long with the next token, it is so whatever follows
-  stays_deep : (a b : List Symbol) (at : ℕ) (f : Fault) → f ≡ Deep (length a) at → ReadNotOn F W q (front ++ a) f → ahead a ≡ ahead b → q (front ++ b) ≡ Err (Deep (length b) at)
+  stays_deep : (a b : List Symbol) (at : ℕ) (f : Fault) → f ≡ Deep (length a) at → ReadNotOn F (going W) q (front ++ a) f → ahead a ≡ ahead b → q (front ++ b) ≡ Err (Deep (length b) at)
   stays_deep a b at (Deep k began) is h e =
       let place : Deep k began ≡ Deep (length h.rest) began = h.place in
       let left : k ≡ length h.rest = cc in
@@ -200,7 +200,7 @@ module _ {X : Type 0} (F W : List Symbol → X → List Symbol → Type 0) (q : 
       (λ at is. over_to b a at (q (front ++ b)) refl g (sym e) is)
 
 module _ {X : Type 0} (F W : List Symbol → X → List Symbol → Type 0) (p q : List Symbol → Reply X) (ts : List Symbol) where
-  deep_read : (j began : ℕ) (second : Reply X) → ReadNotOn F W p ts (Deep j began) → q ts ≡ second → ((us : List Symbol) → ahead ts ≡ ahead us → ReadsOn F W q us (q us)) → ReadsOn F W (either_then p q) ts (Err (Deep j (or_at began (began_here j second))))
+  deep_read : (j began : ℕ) (second : Reply X) → ReadNotOn F (going W) p ts (Deep j began) → q ts ≡ second → ((us : List Symbol) → ahead ts ≡ ahead us → ReadsOn F W q us (q us)) → ReadsOn F W (either_then p q) ts (Err (Deep j (or_at began (began_here j second))))
   deep_read j began second h same all =
       let place : Deep j began ≡ Deep (length h.rest) began = h.place in
       let left : j ≡ length h.rest = cc in

@@ -3,7 +3,7 @@ use Rattle.std.proofs.Common.{◌≡◌, ℕ, ◌<◌, Bool, true, false, if◌t
 use Rattle.go_expr_syntax.specs.declared.symbols.Symbol.{Symbol}
 use Rattle.go_expr_syntax.specs.declared.faults.Fault.{Fault}
 use Rattle.go_expr_syntax.specs.Reading.{Reply, ◌>>=◌, unexpected, past, choose, ListForm, series_more, series_close, series_next, series_end, series_item, series_by, series, rows, row, chain_more, chain_end, chain_by, chain}
-use Rattle.go_expr_syntax.proofs.Viable.{ReadsOn, ReadsAt, bind_on, ended_on, Sample, Kind, Past, After, eats, done_reads, choose_reads, choose_reads_on, past_reads, bind_reads, value_reads}
+use Rattle.go_expr_syntax.proofs.Viable.{ReadsBy, ReadsOn, ReadsAt, bind_on, ended_on, Sample, Kind, Past, After, eats, done_reads, choose_reads, choose_reads_on, past_reads, bind_reads, value_reads}
 use Rattle.go_expr_syntax.proofs.Steps.{Local, steps_is, steps_read}
 
 pub bind_same : {A B : Type 0} (r : Result A Fault) (f g : A → Result B Fault) → ((a : A) → r ≡ Ok a → f a ≡ g a) → (r >>= f) ≡ (r >>= g)
@@ -33,6 +33,9 @@ Eats {X} one = (ts : List Symbol) (z : X × List Symbol) → one ts ≡ Ok z →
 
 pub eats_of : {X : Type 0} (F : List Symbol → X → List Symbol → Type 0) (one : List Symbol → Reply X) → ((x : X) (us : List Symbol) → F [] x us → ⊥) → ((ts : List Symbol) → ReadsAt F one ts (one ts)) → Eats one
 eats_of F one never h ts z e = eats F one ts z.0 z.1 (λ us w. never z.0 us w) (subst (ReadsAt F one ts) e (h ts))
+
+pub eats_by : {X : Type 0} (F : List Symbol → X → List Symbol → Type 0) (W : Fault → List Symbol → X → List Symbol → Type 0) (one : List Symbol → Reply X) → ((x : X) (us : List Symbol) → F [] x us → ⊥) → ((ts : List Symbol) → ReadsBy F W one ts (one ts)) → Eats one
+eats_by F W one never h ts z e = eats F one ts z.0 z.1 (λ us w. never z.0 us w) (subst (ReadsBy F W one ts) e (h ts))
 
 pub eats_on : {X : Type 0} (F W : List Symbol → X → List Symbol → Type 0) (one : List Symbol → Reply X) → ((x : X) (us : List Symbol) → F [] x us → ⊥) → ((ts : List Symbol) → ReadsOn F W one ts (one ts)) → Eats one
 eats_on F W one never h ts z e = eats F one ts z.0 z.1 (λ us w. never z.0 us w) (subst (ReadsOn F W one ts) e (h ts))

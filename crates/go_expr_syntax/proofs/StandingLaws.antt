@@ -1,6 +1,5 @@
 -- What is spelled by tokens that stand in a source stands there.
-use Rattle.std.proofs.Common.{◌≡◌, ◌≢◌, ◌<◌, ◌≤◌, ℕ, suc, Bool, true, false, List, [], ◌∷◌, length, Option, Some, None, refl, sym, ap, subst, ◌∙◌, arith}
-use Rattle.go_lexer.specs.TokenTexts.{IsTokenOf}
+use Rattle.std.proofs.Common.{◌≡◌, ◌≢◌, ◌<◌, ◌≤◌, ℕ, suc, true, List, ◌∷◌, length, Some, sym, subst, arith}
 use Rattle.go_lexer.specs.declared.token_kinds.Token.{Token}
 use Rattle.go_lexer.specs.declared.token_kinds.TokenKind.{TokenKind}
 use Rattle.go_lexer.specs.declared.token_kinds.TokenKind.TheVariants as kind

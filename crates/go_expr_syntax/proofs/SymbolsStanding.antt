@@ -1,5 +1,5 @@
 -- The tokens of a source stand in it, as the grammar sees them.
-use Rattle.std.proofs.Common.{◌≡◌, ◌≢◌, ◌<◌, ◌≤◌, ◌-◌, ◌+◌, ◌==◌, ◌&&◌, nat_le, ℕ, Bool, true, false, if◌then◌else◌, List, [], ◌∷◌, length, take, drop, map, Option, Some, None, slice_get, refl, sym, ap, subst, ◌∙◌, arith}
+use Rattle.std.proofs.Common.{◌≡◌, ◌≢◌, ◌<◌, ◌≤◌, ◌-◌, ◌+◌, ◌==◌, ◌&&◌, ℕ, Bool, true, false, if◌then◌else◌, List, [], ◌∷◌, length, Option, Some, None, slice_get, refl, subst, arith}
 use Rattle.std.proofs.lemmas.Bool.{le-leb}
 use Rattle.std.specs.List.{All}
 use Rattle.std.proofs.lemmas.List.Elements.{All-head, All-tail}
@@ -12,10 +12,8 @@ use Rattle.go_lexer.specs.declared.token_kinds.TokenKind.TheVariants as kind
 use Rattle.go_lexer.proofs.TokenTexts.{some_bytes}
 use Rattle.go_expr_syntax.specs.declared.symbols.Operator.{Operator}
 use Rattle.go_expr_syntax.specs.declared.symbols.Symbol.{Symbol}
-use Rattle.go_expr_syntax.specs.declared.symbols.Symbol.TheVariants as t
-use Rattle.go_expr_syntax.specs.StandingExprs.{PlaceStands, LiteralStands, SymbolStands, SymbolsStand}
-use Rattle.go_expr_syntax.specs.TokenView as v
-use Rattle.go_expr_syntax.specs.TokenView.{keyword_symbol, single_operator, operator_symbol, single_symbol, pair_operator, pair_symbol, triple_symbol, mark_symbol, text_of, symbol_by, symbol_of, symbols_of}
+use Rattle.go_expr_syntax.specs.StandingExprs.{PlaceStands, SymbolStands, SymbolsStand}
+use Rattle.go_expr_syntax.specs.TokenView.{keyword_symbol, single_operator, operator_symbol, single_symbol, pair_operator, pair_symbol, mark_symbol, text_of, symbol_by, symbols_of}
 
 either_stands : (src : List ℕ) (b : Bool) (k j : Symbol) → SymbolStands src k → SymbolStands src j → SymbolStands src (if b then k else j)
 either_stands src true k j h g = h

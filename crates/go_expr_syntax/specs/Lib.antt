@@ -2,6 +2,7 @@ pub mod Reading
 pub mod Either
 pub mod Names
 pub mod Expressions
+pub mod Calls
 pub mod Operands
 pub mod Kinds
 pub mod TokenView

@@ -32,7 +32,8 @@ use Rattle.go_syntax.proofs.ConstAgain.{ends_spec, Ended, names_not_open, names_
 use Rattle.go_syntax.proofs.SkipReads.{skip_again}
 use Rattle.go_syntax.proofs.FuncAgain.{func_again}
 use Rattle.go_syntax.proofs.GenericAgain.{agrees_more, some_again, type_opens_none, name_opens}
-use Rattle.go_syntax.proofs.FileReads.{import_reads, no_import_here, var_reads, no_var, spec_reads, no_spec, import_local, top_local}
+use Rattle.go_syntax.proofs.ImportReads.{import_eats, import_local}
+use Rattle.go_syntax.proofs.FileReads.{var_reads, no_var, spec_reads, no_spec, top_local}
 use Rattle.go_expr_syntax.proofs.Agreeing.{Agrees, agrees_bind, agrees_from, sized, choose_other, names_again, row_none, row_last, row_more}
 use Rattle.go_type_syntax.proofs.Follows.{goes_on, Free, next_so, no_comma, type_begins}
 use Rattle.go_type_syntax.proofs.TypeAgain.{type_again}
@@ -157,7 +158,7 @@ import_not_close m ts x rest (d.plainly s r) = refl
 import_not_close m ts x rest (d.named_so i s r) = refl
 
 import_items : (n : ℕ) → Items n IsImport import_at
-import_items n = record { eats_one = eats_of (Any IsImport) import_at no_import_here import_reads; again = λ m ts x rest w e. import_again n m ts x rest w; no_open = import_not_open; no_close = import_not_close }
+import_items n = record { eats_one = import_eats; again = λ m ts x rest w e. import_again n m ts x rest w; no_open = import_not_open; no_close = import_not_close }
 
 import_opens : (later : List Symbol → Reply (List Import)) (r : List Symbol) → starts is_import r ≡ false → import_step later r ≡ Ok ([], r)
 import_opens later [] e = refl

@@ -1,16 +1,15 @@
 -- What the readers of declarations and files do.
-use Rattle.std.proofs.Common.{◌≡◌, ℕ, max, ◌<◌, ◌≤◌, true, List, [], ◌∷◌, length, Some, None, Ok, refl, sym, subst, arith}
-use Rattle.go_lexer.specs.declared.token_kinds.TokenKind.TheVariants as kind
+use Rattle.std.proofs.Common.{◌≡◌, ℕ, max, ◌<◌, ◌≤◌, true, List, [], ◌∷◌, ◌++◌, length, Some, None, Ok, refl, sym, subst, arith}
 use Rattle.go_expr_syntax.specs.declared.symbols.Symbol.{Symbol}
 use Rattle.go_expr_syntax.specs.declared.symbols.Symbol.TheVariants as t
 use Rattle.go_expr_syntax.specs.declared.symbols.Ident.{Ident}
-use Rattle.go_expr_syntax.specs.declared.faults.Fault.TheVariants.{DotImport}
+use Rattle.go_expr_syntax.specs.declared.faults.Fault.{Fault}
 use Rattle.go_syntax.specs.declared.tree.Import.{Import}
 use Rattle.go_syntax.specs.declared.tree.Top.{Top}
 use Rattle.go_syntax.specs.declared.tree.Top.TheVariants as top
 use Rattle.go_syntax.specs.declared.tree.FuncDecl.{FuncDecl}
 use Rattle.go_syntax.specs.declared.tree.SourceFile.{SourceFile}
-use Rattle.go_expr_syntax.specs.Reading.{Quoted, Reply, ◌>>=◌, past, choose, is_package, is_semicolon, is_comma, is_assign, is_import, is_var, is_type, is_const, is_func}
+use Rattle.go_expr_syntax.specs.Reading.{Reply, ◌>>=◌, past, choose, is_package, is_semicolon, is_comma, is_assign, is_var, is_type, is_const, is_func}
 use Rattle.go_expr_syntax.specs.Names.{IsNames, one, more, ident_at, names_at}
 use Rattle.go_type_syntax.specs.Types.{type_at}
 use Rattle.go_syntax.specs.Skipped.{IsSkipped, skip}
@@ -18,10 +17,10 @@ use Rattle.go_syntax.specs.Functions.{func_at}
 use Rattle.go_syntax.specs.declared.constants.Written.{Written}
 use Rattle.go_syntax.specs.Constants.{IsConstSpec, counted, const_spec_at}
 use Rattle.go_syntax.specs.Decls as d
-use Rattle.go_syntax.specs.Decls.{import, vars, defined, source_file, IsImport, IsValue, IsVarSpec, IsTypeSpec, IsGroup, IsImports, IsTops, IsFileOf}
-use Rattle.go_syntax.specs.Files.{text_at, named_import, dot_import, import_at, value_by, value_at, vars_typed, vars_rest, vars_more, vars_first, var_spec_at, type_first, type_spec_at, group_at, const_group_at, func_group_at, decl_at, import_step, top_step, imports_at, tops_at, file_tops, file_imports, file_clause, file_name, file_front}
-use Rattle.go_expr_syntax.proofs.Viable.{next_is, ReadsAt, Sample, Behind, Past, After, done_reads, refuse_reads, refuse_next, refuse_end, like_reads, as_reads, cons_reads, past_reads, choose_reads_on, choose_reads, bind_reads, value_reads}
-use Rattle.go_expr_syntax.proofs.Marks.{semicolon, comma, assign, import_word, var_word, type_word, const_word, func_word, package_word}
+use Rattle.go_syntax.specs.Decls.{vars, defined, source_file, IsAnyImport, IsValue, IsVarSpec, IsTypeSpec, IsGroup, IsTops, IsFileWith, IsFileOf}
+use Rattle.go_syntax.specs.Files.{value_by, value_at, vars_typed, vars_rest, vars_more, vars_first, var_spec_at, type_first, type_spec_at, group_at, const_group_at, func_group_at, decl_at, top_step, imports_at, tops_at, file_tops, file_imports, file_clause, file_name, file_front}
+use Rattle.go_expr_syntax.proofs.Viable.{going, turned, ReadsBy, ReadsAt, Behind, Past, After, done_reads, like_reads, as_reads, past_by, choose_reads_on, choose_reads, bind_front, bind_reads, value_by as valued_by, value_reads}
+use Rattle.go_expr_syntax.proofs.Marks.{semicolon, comma, assign, var_word, type_word, const_word, func_word, package_word}
 use Rattle.go_expr_syntax.proofs.NameReads.{IsIdent, any_ident, ident_reads, names_reads, no_names, through_value}
 use Rattle.go_type_syntax.proofs.Standing.{TypeAt, some_type}
 use Rattle.go_type_syntax.proofs.TypeReads.{type_reads}
@@ -31,43 +30,8 @@ use Rattle.go_syntax.proofs.FuncReads.{FuncAt, func_reads}
 use Rattle.go_syntax.proofs.GenericReads.{type_first_reads}
 use Rattle.go_expr_syntax.proofs.Rows.{Eats, eats_of, choose_same}
 use Rattle.go_expr_syntax.proofs.Steps.{Local, steps_read}
+use Rattle.go_syntax.proofs.ImportReads.{Wide, wide_as, wide_of, ImportsAt, WideImports, imports_wider, imports_read}
 use Rattle.go_syntax.proofs.Groups.{Any, group_reads, decl_same, decl_reads}
-
--- ---- imports
-
-abbrev IsText : List Symbol → Quoted → List Symbol → Type 0
-IsText ts s rest = ts ≡ t.Text s ∷ rest
-
-abbrev any_text : Quoted
-any_text = (record { kind = kind.Text; start = 0; end = 0 }, [])
-
-some_text : Sample IsText
-some_text = record { tokens = t.Text any_text ∷ []; made = any_text; stands = λ tail. refl }
-
-text_reads : (ts : List Symbol) → ReadsAt IsText text_at ts (text_at ts)
-text_reads [] = refuse_end IsText text_at some_text refl
-text_reads (t.Text s ∷ ts) = cons_reads IsText text_at (λ r. Ok (s, r)) (t.Text s) ts (Ok (s, ts)) (λ r. refl) (done_reads (Behind (t.Text s) IsText) (λ r. Ok (s, r)) ts s (λ tail. refl) (λ r e. refl))
-text_reads (k ∷ ts) = refuse_next IsText text_at k ts some_text (λ r. refl)
-
-some_import : Sample (Any IsImport)
-some_import = record { tokens = t.Text any_text ∷ []; made = import None any_text; stands = λ tail. (0, d.plainly any_text tail) }
-
-pub import_reads : (ts : List Symbol) → ReadsAt (Any IsImport) import_at ts (import_at ts)
-import_reads [] = refuse_end (Any IsImport) import_at some_import refl
-import_reads (t.Text s ∷ ts) =
-    cons_reads (Any IsImport) import_at (λ r. Ok (import None s, r)) (t.Text s) ts (Ok (import None s, ts)) (λ r. refl)
-    (done_reads (Behind (t.Text s) (Any IsImport)) (λ r. Ok (import None s, r)) ts (import None s) (λ tail. (0, d.plainly s tail)) (λ r e. refl))
-import_reads (t.Ident i ∷ ts) =
-    cons_reads (Any IsImport) import_at (named_import i) (t.Ident i) ts (named_import i ts) (λ r. refl)
-    (value_reads IsText (Behind (t.Ident i) (Any IsImport)) text_at (λ s. import (Some i) s) ts (λ us s rest w. rw w (0, d.named_so i s rest)) (text_at ts) (text_reads ts))
-import_reads (t.Dot at ∷ ts) = refuse_reads (Any IsImport) import_at (t.Dot at ∷ ts) (DotImport (length (t.Dot at ∷ ts))) some_import refl (next_is (λ r. import_at r ≡ dot_import r) (t.Dot at) (λ r. refl)) tt
-import_reads (k ∷ ts) = refuse_next (Any IsImport) import_at k ts some_import (λ r. refl)
-
-no_import_of : (m : ℕ) (x : Import) (us : List Symbol) → IsImport m [] x us → ⊥
-no_import_of m x us w = elim w [ ]
-
-pub no_import_here : (x : Import) (us : List Symbol) → Any IsImport [] x us → ⊥
-no_import_here x us w = no_import_of w.0 x us w.1
 
 -- ---- variables
 
@@ -173,9 +137,6 @@ no_spec x us w = no_spec_of w.0 x us w.1
 
 -- groups
 
-pub import_groups : (ts : List Symbol) → ReadsAt (Any (IsGroup IsImport)) (group_at import_at) ts (group_at import_at ts)
-import_groups ts = group_reads IsImport import_at no_import_here import_reads ts
-
 pub var_groups : (n : ℕ) (ts : List Symbol) → ReadsAt (Any (IsGroup IsVarSpec)) (group_at (var_spec_at n)) ts (group_at (var_spec_at n) ts)
 var_groups n ts = group_reads IsVarSpec (var_spec_at n) no_var (var_reads n) ts
 
@@ -198,11 +159,6 @@ FuncsAt ts xs rest = (f : FuncDecl) × (xs ≡ top.Func f ∷ []) × FuncAt ts f
 pub func_groups : (n : ℕ) (ts : List Symbol) → ReadsAt FuncsAt (func_group_at n) ts (func_group_at n ts)
 func_groups n ts = value_reads FuncAt FuncsAt (func_at n) (λ f. top.Func f ∷ []) ts (λ us f rest w. (f, refl, w)) (func_at n ts) (func_reads n ts)
 
-pub import_local : Local import_step
-import_local f g ts h =
-    choose_same is_import (decl_at (group_at import_at) f) (decl_at (group_at import_at) g) (Ok ([], ts)) (Ok ([], ts)) ts
-    (λ us less. decl_same (Any (IsGroup IsImport)) (group_at import_at) import_groups f g us (λ vs fewer. h vs (omega arith))) refl
-
 pub top_local : (n : ℕ) → 2 ≤ n → Local (top_step n)
 top_local n two f g ts h =
     choose_same is_var (decl_at (group_at (var_spec_at n)) f) (decl_at (group_at (var_spec_at n)) g) _ _ ts
@@ -214,18 +170,8 @@ top_local n two f g ts h =
     (choose_same is_func (decl_at (func_group_at n) f) (decl_at (func_group_at n) g) (Ok ([], ts)) (Ok ([], ts)) ts
     (λ us less. decl_same FuncsAt (func_group_at n) (func_groups n) f g us (λ vs fewer. h vs (omega arith))) refl)))
 
-abbrev ImportsAt : List Symbol → List Import → List Symbol → Type 0
-ImportsAt = Any IsImports
-
 abbrev TopsAt : List Symbol → List Top → List Symbol → Type 0
 TopsAt = Any IsTops
-
-import_step_reads : (later : List Symbol → Reply (List Import)) (ts : List Symbol) → ((vs : List Symbol) → length vs < length ts → ReadsAt ImportsAt later vs (later vs)) → ReadsAt ImportsAt (import_step later) ts (import_step later ts)
-import_step_reads later ts h =
-    choose_reads_on is_import ImportsAt import_word (decl_at (group_at import_at) later) (λ us. Ok ([], us)) ts
-    (λ us less. decl_reads (Any (IsGroup IsImport)) (group_at import_at) import_groups ImportsAt (Past import_word ImportsAt) later us
-    (λ vs xs s ws ys rest w v at. (max w.0 v.0, d.imports_too w.0 v.0 at s vs ws xs ys rest w.1 v.1)) (λ rest. (0, d.no_import rest)) (λ vs fewer. h vs (omega arith)))
-    (λ e. done_reads ImportsAt (λ us. Ok ([], us)) ts [] (λ tail. (0, d.no_import tail)) (λ r e'. refl))
 
 -- a function, or no more; or constants; or types
 abbrev funcs_or : ℕ → (List Symbol → Reply (List Top)) → List Symbol → Reply (List Top)
@@ -265,9 +211,6 @@ top_step_reads n two later ts h =
     (λ vs xs s ws ys rest w v at. (max w.0 v.0, d.vars_too w.0 v.0 at s vs ws xs ys rest w.1 v.1)) (λ rest. (0, d.no_top rest)) (λ vs fewer. h vs (omega arith)))
     (λ e. type_step_reads n two later ts h)
 
-pub imports_read : (ts : List Symbol) → ReadsAt ImportsAt imports_at ts (imports_at ts)
-imports_read ts = steps_read ImportsAt import_step import_local import_step_reads ts
-
 pub tops_read : (n : ℕ) → 2 ≤ n → (ts : List Symbol) → ReadsAt TopsAt (tops_at n) ts (tops_at n ts)
 tops_read n two ts = steps_read TopsAt (top_step n) (top_local n two) (top_step_reads n two) ts
 
@@ -276,26 +219,63 @@ tops_read n two ts = steps_read TopsAt (top_step n) (top_local n two) (top_step_
 abbrev pub FileAt : List Symbol → SourceFile → List Symbol → Type 0
 FileAt = Any IsFileOf
 
-pub file_reads : (n : ℕ) → 2 ≤ n → (ts : List Symbol) → ReadsAt FileAt (file_front n) ts (file_front n ts)
+-- where imports may be of all the names of a package
+abbrev pub WideFile : List Symbol → SourceFile → List Symbol → Type 0
+WideFile = Any (IsFileWith IsAnyImport)
+
+file_wider_of : (m : ℕ) (us : List Symbol) (x : SourceFile) (r : List Symbol) → IsFileOf m us x r → IsFileWith IsAnyImport m us x r
+file_wider_of m us x r (d.file k n at i s ts vs imports tops rest a b) = d.file k n at i s ts vs imports tops rest (imports_wider k ts imports vs a) b
+
+pub file_wider : (us : List Symbol) (x : SourceFile) (r : List Symbol) → FileAt us x r → WideFile us x r
+file_wider us x r w = (w.0, file_wider_of w.0 us x r w.1)
+
+-- after the word and the name
+abbrev Clause : List Symbol → Fault → List Symbol → SourceFile → List Symbol → Type 0
+Clause front f us x r = (at : ℕ) → Wide FileAt WideFile f (t.Package at ∷ (front ++ us)) x r
+
+-- the name before what a fault goes on to
+named_goes : (i : Ident) (front : List Symbol) → ((tail : List Symbol) → front ++ tail ≡ t.Ident i ∷ tail) → (f : Fault) (us : List Symbol) (x : SourceFile) (r : List Symbol) → ((at : ℕ) → Wide FileAt WideFile f (t.Package at ∷ t.Ident i ∷ us) x r) → Clause front f us x r
+named_goes i front same f us x r h at = subst (λ ws. Wide FileAt WideFile f (t.Package at ∷ ws) x r) (sym (same us)) (h at)
+
+imports_go_on : (i : Ident) (s at : ℕ) (f : Fault) (us : List Symbol) (xs : List Import) (r : List Symbol) → Wide ImportsAt WideImports f us xs r → Wide FileAt WideFile f (t.Package at ∷ t.Ident i ∷ t.Semicolon s ∷ us) (source_file i xs []) r
+imports_go_on i s at f us xs r w =
+    wide_as ImportsAt WideImports FileAt WideFile (t.Package at ∷ t.Ident i ∷ t.Semicolon s ∷ []) xs (source_file i xs []) r r
+    (λ vs v. (max v.0 0, d.file v.0 0 at i s vs r xs [] r v.1 (d.no_top r))) (λ vs v. (max v.0 0, d.file v.0 0 at i s vs r xs [] r v.1 (d.no_top r))) f us w
+
+tops_go_on : (i : Ident) (s at : ℕ) (front : List Symbol) (xs : List Import) → ((tail : List Symbol) → ImportsAt (front ++ tail) xs tail) → (f : Fault) (us : List Symbol) (tops : List Top) (r : List Symbol) → going TopsAt f us tops r
+    → Wide FileAt WideFile f (t.Package at ∷ t.Ident i ∷ t.Semicolon s ∷ (front ++ us)) (source_file i xs tops) r
+tops_go_on i s at front xs h f us tops r w =
+    wide_of FileAt WideFile file_wider f (t.Package at ∷ t.Ident i ∷ t.Semicolon s ∷ (front ++ us)) (source_file i xs tops) r
+    (turned TopsAt FileAt (t.Package at ∷ t.Ident i ∷ t.Semicolon s ∷ front) tops (source_file i xs tops) r r (λ vs v. let o = h vs in (max o.0 v.0, d.file o.0 v.0 at i s (front ++ vs) vs xs tops r o.1 v.1)) f us w)
+
+-- after the semicolon of the package clause
+body_reads : (n : ℕ) → 2 ≤ n → (i : Ident) (front : List Symbol) → ((tail : List Symbol) → front ++ tail ≡ t.Ident i ∷ tail) → (ts : List Symbol)
+    → ReadsBy (Past semicolon (After IsIdent (Past package_word FileAt) i)) (λ f. Past semicolon (Clause front f)) (file_imports n i) ts (file_imports n i ts)
+body_reads n two i front same ts =
+    bind_front ImportsAt (Wide ImportsAt WideImports) (Past semicolon (After IsIdent (Past package_word FileAt) i)) (λ f. Past semicolon (Clause front f)) imports_at (file_tops n i) ts
+    (λ xs. record { tokens = []; made = source_file i xs []; stands = λ tail vs w s us e at. rw e (max w.0 0, d.file w.0 0 at i s vs tail xs [] tail w.1 (d.no_top tail)) })
+    (λ xs. []) (λ xs. source_file i xs []) (λ f us xs r w s. named_goes i front same f (t.Semicolon s ∷ us) (source_file i xs []) r (λ at. imports_go_on i s at f us xs r w))
+    (λ xs us o. valued_by TopsAt (going TopsAt) (After ImportsAt (Past semicolon (After IsIdent (Past package_word FileAt) i)) xs) (λ f vs x r. Past semicolon (Clause front f) (o.front ++ vs) x r) (tops_at n) (λ tops. source_file i xs tops) us
+    (λ vs tops rest v ws w s ys e at. rw e (max w.0 v.0, d.file w.0 v.0 at i s ws vs xs tops rest w.1 v.1))
+    (λ f vs tops rest w s. named_goes i front same f (t.Semicolon s ∷ (o.front ++ vs)) (source_file i xs tops) rest (λ at. tops_go_on i s at o.front xs o.stands f vs tops rest w)) (tops_at n us) (tops_read n two us))
+    (imports_at ts) (imports_read ts)
+
+pub file_reads : (n : ℕ) → 2 ≤ n → (ts : List Symbol) → ReadsBy FileAt (Wide FileAt WideFile) (file_front n) ts (file_front n ts)
 unfolding file_front
 file_reads n two ts =
-    past_reads is_package FileAt package_word (file_name n) ts
+    past_by is_package FileAt (Wide FileAt WideFile) package_word (file_name n) ts
     (record { tokens = t.Ident any_ident ∷ t.Semicolon 0 ∷ []; made = source_file any_ident [] []; stands = λ tail at. (0, d.file 0 0 at any_ident 0 tail tail [] [] tail (d.no_import tail) (d.no_top tail)) })
-    (λ k us e. bind_reads IsIdent (Past package_word FileAt) ident_at (file_clause n) us
+    (λ k us e. bind_front IsIdent (going IsIdent) (Past package_word FileAt) (λ f. Past package_word (Wide FileAt WideFile f)) ident_at (file_clause n) us
     (λ i. record { tokens = t.Semicolon 0 ∷ []; made = source_file i [] []; stands = λ tail vs e at. rw e (0, d.file 0 0 at i 0 tail tail [] [] tail (d.no_import tail) (d.no_top tail)) })
-    (λ i vs o. past_reads is_semicolon (After IsIdent (Past package_word FileAt) i) semicolon (file_imports n i) vs
+    (λ i. t.Semicolon 0 ∷ []) (λ i. source_file i [] [])
+    (λ f vs i r w at. wide_of FileAt WideFile file_wider f (t.Package at ∷ vs) (source_file i [] []) r
+    (turned IsIdent FileAt (t.Package at ∷ []) i (source_file i [] []) (t.Semicolon 0 ∷ r) r (λ ws same. rw same (0, d.file 0 0 at i 0 r r [] [] r (d.no_import r) (d.no_top r))) f vs w))
+    (λ i vs o. past_by is_semicolon (After IsIdent (Past package_word FileAt) i) (λ f ws x r. Past package_word (Wide FileAt WideFile f) (o.front ++ ws) x r) semicolon (file_imports n i) vs
     (record { tokens = []; made = source_file i [] []; stands = λ tail s ws e at. rw e (0, d.file 0 0 at i s tail tail [] [] tail (d.no_import tail) (d.no_top tail)) })
-    (λ k' ws e'. bind_reads ImportsAt (Past semicolon (After IsIdent (Past package_word FileAt) i)) imports_at (file_tops n i) ws
-    (λ xs. record { tokens = []; made = source_file i xs []; stands = λ tail vs' w s us' e at. rw e (max w.0 0, d.file w.0 0 at i s vs' tail xs [] tail w.1 (d.no_top tail)) })
-    (λ xs ws' o'. value_reads TopsAt (After ImportsAt (Past semicolon (After IsIdent (Past package_word FileAt) i)) xs) (tops_at n) (λ tops. source_file i xs tops) ws'
-    (λ us' tops rest v vs' w s ys e at. rw e (max w.0 v.0, d.file w.0 v.0 at i s vs' us' xs tops rest w.1 v.1)) (tops_at n ws') (tops_read n two ws'))
-    (imports_at ws) (imports_read ws)))
+    (λ k' ws e'. body_reads n two i o.front o.stands ws))
     (ident_at us) (ident_reads us))
 
 -- ---- specifications take tokens
-
-pub import_eats : Eats import_at
-import_eats = eats_of (Any IsImport) import_at no_import_here import_reads
 
 pub var_eats : (n : ℕ) → Eats (var_spec_at n)
 var_eats n = eats_of (Any IsVarSpec) (var_spec_at n) no_var (var_reads n)

@@ -7,9 +7,9 @@ use Rattle.go_expr_syntax.specs.declared.faults.Fault.{Fault}
 use Rattle.go_expr_syntax.specs.declared.faults.Fault.TheVariants.{Unexpected, Deep, DotImport, Call}
 use Rattle.go_syntax.specs.Decls.{IsFileOf}
 use Rattle.go_syntax.specs.Files.{file_at}
-use Rattle.go_syntax.specs.Outcomes.{IsFile, BeginsFile, IsUnexpected, Deepens, GoesOn, IsTooDeep}
+use Rattle.go_syntax.specs.Outcomes.{IsFile, IsUnexpected, Deepens, GoesOnTo, IsTooDeep, IsFileWithDots, IsFileWithCall}
 use Rattle.go_expr_syntax.proofs.EitherReads.{goes_further}
-use Rattle.go_syntax.proofs.Laws.{is_found, explains}
+use Rattle.go_syntax.proofs.Laws.{is_found, explains, as_unexpected}
 
 -- a file that goes on with a front and the token behind it has the path
 deepens_at : (n : ℕ) (front mid more us : List Symbol) (k : Symbol) (f : SourceFile) (m : ℕ) → Deepens n front (mid ++ k ∷ us) → IsFileOf m (front ++ (mid ++ k ∷ more)) f [] → n < m
@@ -32,7 +32,7 @@ module _ (ts : List Symbol) (never : (f : SourceFile) → IsFile ts f → ⊥) w
   abbrev Small : ℕ → ℕ → Type 0
   Small size n = (k began : ℕ) → file_at n ts ≡ Err (Deep k began) → k < size
 
-  earlier : (n : ℕ) → 2 ≤ n → (k began : ℕ) → file_at n ts ≡ Err (Deep k began) → (rest : List Symbol) (h : IsTooDeep n ts k) → h.rest ≡ rest → GoesOn h.front rest → (m : ℕ) × (2 ≤ m) × Small k m
+  earlier : (n : ℕ) → 2 ≤ n → (k began : ℕ) → file_at n ts ≡ Err (Deep k began) → (rest : List Symbol) (h : IsTooDeep n ts k) → h.rest ≡ rest → GoesOnTo IsFile h.front rest → (m : ℕ) × (2 ≤ m) × Small k m
   earlier n two k began e [] h same goes = absurd goes
   earlier n two k began e (j ∷ us) h same goes =
       let m = max n goes.2.0 in (
@@ -50,8 +50,8 @@ module _ (ts : List Symbol) (never : (f : SourceFile) → IsFile ts f → ⊥) w
   found_or : (size n : ℕ) → 2 ≤ n → Small size n → ((m : ℕ) → 2 ≤ m → (k : ℕ) → k < size → Small k m → First) → (g : Result SourceFile Fault) → file_at n ts ≡ g → First
   found_or size n two small next (Ok f) e = absurd (never f (is_found n two ts f e))
   found_or size n two small next (Err (Unexpected k)) e = (k, explains n two ts (Unexpected k) e)
-  found_or size n two small next (Err (DotImport k)) e = (k, explains n two ts (DotImport k) e)
-  found_or size n two small next (Err (Call k at)) e = (k, explains n two ts (Call k at) e)
+  found_or size n two small next (Err (DotImport k)) e = (k, as_unexpected IsFileWithDots ts k (explains n two ts (DotImport k) e))
+  found_or size n two small next (Err (Call k at)) e = (k, as_unexpected (IsFileWithCall at) ts k (explains n two ts (Call k at) e))
   found_or size n two small next (Err (Deep k began)) e =
       let h : IsTooDeep n ts k = explains n two ts (Deep k began) e in
       let o = earlier n two k began e h.rest h refl h.goes in

@@ -7,7 +7,7 @@ use Rattle.go_syntax.specs.declared.tree.Receiver.{Receiver}
 use Rattle.go_syntax.specs.declared.tree.FuncDecl.{FuncDecl}
 use Rattle.go_type_syntax.specs.declared.tree.SigExpr.{SigExpr}
 use Rattle.go_syntax.specs.declared.tree.TParam.{TParam}
-use Rattle.go_expr_syntax.specs.Reading.{Reply, ◌>>=◌, starts, is_comma, is_close_paren, is_open_paren, is_open_bracket, is_close_bracket, is_open_brace, is_close_brace, series_end, series}
+use Rattle.go_expr_syntax.specs.Reading.{Reply, starts, is_comma, is_close_paren, is_open_paren, is_open_bracket, is_close_bracket, is_open_brace, is_close_brace, series_end, series}
 use Rattle.go_expr_syntax.specs.Names.{ident_at}
 use Rattle.go_type_syntax.specs.Grammar.{IsSig}
 use Rattle.go_type_syntax.specs.Params.{sig_at}

@@ -3,6 +3,8 @@ use Rattle.std.proofs.Common.{◌≡◌, ℕ, zero, suc, max, ◌≤◌, Bool, t
 use Rattle.go_expr_syntax.specs.declared.symbols.Symbol.{Symbol}
 use Rattle.go_expr_syntax.specs.declared.symbols.Symbol.TheVariants as t
 use Rattle.go_expr_syntax.specs.declared.symbols.Ident.{Ident}
+use Rattle.go_lexer.specs.declared.token_kinds.Token.{Token}
+use Rattle.go_expr_syntax.specs.declared.faults.Fault.{Fault}
 use Rattle.go_syntax.specs.declared.tree.TParam.{TParam}
 use Rattle.go_type_syntax.specs.declared.tree.TypeExpr.{TypeExpr}
 use Rattle.go_syntax.specs.declared.tree.Top.{Top}
@@ -19,11 +21,11 @@ use Rattle.go_expr_syntax.specs.Reading.{shows_length}
 use Rattle.go_syntax.specs.Decls as d
 use Rattle.go_syntax.specs.Decls.{defined, alias, IsTypeSpec}
 use Rattle.go_syntax.specs.Files.{alias_by, defined_by, declared_by, generic_by, type_first}
-use Rattle.go_expr_syntax.proofs.Viable.{next_is, ends_so, ReadsAt, Behind, Past, After, done_reads, like_reads, as_reads, cons_reads, choose_reads, bind_reads, value_reads, only_reads, starts_same, from_start_reads}
-use Rattle.go_expr_syntax.proofs.Uncons.{uncons_reads}
+use Rattle.go_expr_syntax.proofs.Viable.{going, turned, ReadsBy, like_by, as_by, cons_by, value_by, next_is, ends_so, ReadsAt, Behind, Past, After, done_reads, like_reads, as_reads, cons_reads, choose_reads, bind_reads, value_reads, only_reads, starts_same, from_start_reads}
+use Rattle.go_expr_syntax.proofs.Uncons.{uncons_by, uncons_reads}
 use Rattle.go_expr_syntax.proofs.Marks.{comma, assign, open_bracket, close_bracket}
 use Rattle.go_expr_syntax.proofs.NameReads.{IsIdent, any_ident, ident_reads, names_reads, no_names, through_value}
-use Rattle.go_type_syntax.proofs.Standing.{TypeAt, UnionAt, name_stands, no_type_here}
+use Rattle.go_type_syntax.proofs.Standing.{no_literal, no_union_literal, TypeAt, UnionAt, name_stands, no_type_here}
 use Rattle.go_expr_syntax.proofs.OperandReads.{no_expr_here}
 use Rattle.go_type_syntax.proofs.ElemReads.{union_reads}
 use Rattle.go_type_syntax.proofs.TypeReads.{type_reads, lower_reads}
@@ -197,6 +199,14 @@ lone_names : (m : ℕ) (j : Ident) (ps : List TParam) (us : List Symbol) → IsT
 lone_names m j ps us (q.last_tparam n c ts x rest w) = lone_name n j x (t.CloseBracket c ∷ us) w
 lone_names m j ps us (q.more_tparams k n s ts vs x xs rest w v) = lone_name k j x (t.Comma s ∷ vs) w
 
+-- nor does a constraint begin with a literal
+literal_name : (m : ℕ) (j : Ident) (token : Token) (us : List Symbol) (x : TParam) (rest : List Symbol) → IsTParam m (t.Ident j ∷ t.Literal token ∷ us) x rest → ⊥
+literal_name m j token us x rest (q.constrained n ts i names vs ty r (one i' r') b) = no_union_literal token us (ty, 0) rest (n, b)
+
+literal_names : (m : ℕ) (j : Ident) (token : Token) (us : List Symbol) (ps : List TParam) (rest : List Symbol) → IsTParams m (t.Ident j ∷ t.Literal token ∷ us) ps rest → ⊥
+literal_names m j token us ps rest (q.last_tparam n c ts x r w) = literal_name n j token us x (t.CloseBracket c ∷ r) w
+literal_names m j token us ps rest (q.more_tparams k n s ts vs x xs r w v) = literal_name k j token us x (t.Comma s ∷ vs) w
+
 -- after the bracket and the first name
 abbrev Named : Ident → ℕ → Ident → List Symbol → Top → List Symbol → Type 0
 Named i a j = Behind (t.Ident j) (Behind (t.OpenBracket a) (Behind (t.Ident i) SpecAt))
@@ -206,6 +216,7 @@ params_side n i a j ts s =
     only_reads (Behind (t.Ident j) (OpenedAt i)) (Named i a j) (λ us. generic_by n i (t.Ident j ∷ us)) ts
     (λ k us x rest e w. opened_as i a w.0 j (k ∷ us) w.1 w.2 x rest (sym (starts_same shows_length ts (k ∷ []) e) ∙ s) w.3 w.4)
     (λ x us w. lone_names w.0 j w.1 w.2 w.3)
+    (λ token us x rest w. literal_names w.0 j token us w.1 w.2 w.3)
     (record {
       tokens = t.Ident any_ident ∷ t.CloseBracket 0 ∷ t.Ident any_ident ∷ [];
       made = defined i (tparam (j ∷ []) (named (plain any_ident)) j.start ∷ []) (named (plain any_ident));
@@ -228,15 +239,15 @@ unfolding readers
 bracket_type zero a ts two = absurd (omega arith)
 bracket_type (suc zero) a ts two = absurd (omega arith)
 bracket_type (suc (suc n)) a ts two =
-    uncons_reads TypeAt (type_at (suc (suc n))) (t.OpenBracket a) ts no_type_here (t.CloseBracket 0 ∷ t.Ident any_ident ∷ []) _ refl (type_at (suc (suc n)) (t.OpenBracket a ∷ ts)) (type_reads (suc (suc n)) (t.OpenBracket a ∷ ts))
+    uncons_reads TypeAt (type_at (suc (suc n))) (t.OpenBracket a) ts no_type_here no_literal (t.CloseBracket 0 ∷ t.Ident any_ident ∷ []) _ refl (type_at (suc (suc n)) (t.OpenBracket a ∷ ts)) (type_reads (suc (suc n)) (t.OpenBracket a ∷ ts))
 
 length_type : (n a : ℕ) (j : Ident) (ts : List Symbol) → 2 ≤ n
-    → ReadsAt (Behind (t.Ident j) (Behind (t.OpenBracket a) TypeAt)) (λ us. type_at n (t.OpenBracket a ∷ t.Ident j ∷ us)) ts (type_at n (t.OpenBracket a ∷ t.Ident j ∷ ts))
+    → ReadsBy (Behind (t.Ident j) (Behind (t.OpenBracket a) TypeAt)) (λ f. Behind (t.Ident j) (going (Behind (t.OpenBracket a) TypeAt) f)) (λ us. type_at n (t.OpenBracket a ∷ t.Ident j ∷ us)) ts (type_at n (t.OpenBracket a ∷ t.Ident j ∷ ts))
 unfolding readers expr_of climb_of
 length_type zero a j ts two = absurd (omega arith)
 length_type (suc zero) a j ts two = absurd (omega arith)
 length_type (suc (suc n)) a j ts two =
-    uncons_reads (Behind (t.OpenBracket a) TypeAt) (λ us. type_at (suc (suc n)) (t.OpenBracket a ∷ us)) (t.Ident j) ts (λ x us w. no_bare_bracket w.0 a x.0 us w.1) (t.CloseBracket 0 ∷ t.Ident any_ident ∷ []) _ refl
+    uncons_by (Behind (t.OpenBracket a) TypeAt) (λ us. type_at (suc (suc n)) (t.OpenBracket a ∷ us)) (t.Ident j) ts (λ x us w. no_bare_bracket w.0 a x.0 us w.1) (t.CloseBracket 0 ∷ t.Ident any_ident ∷ []) _ refl
     (type_at (suc (suc n)) (t.OpenBracket a ∷ t.Ident j ∷ ts)) (bracket_type (suc (suc n)) a (t.Ident j ∷ ts) two)
 
 -- ---- after the name of a declared type
@@ -249,21 +260,33 @@ plain_side n i a ts two =
     value_reads (Behind (t.OpenBracket a) TypeAt) (Bracketed i a) (λ us. type_at n (t.OpenBracket a ∷ us)) (λ ty. defined i [] ty.0) ts (λ us ty rest w. (w.0, d.defines w.0 i (t.OpenBracket a ∷ us) ty.0 rest w.1))
     (type_at n (t.OpenBracket a ∷ ts)) (bracket_type n a ts two)
 
-length_side : (n : ℕ) (i : Ident) (a : ℕ) (j : Ident) (ts : List Symbol) → 2 ≤ n → ReadsAt (Named i a j) (λ us. defined_by n i [] (t.OpenBracket a ∷ t.Ident j ∷ us)) ts (defined_by n i [] (t.OpenBracket a ∷ t.Ident j ∷ ts))
+-- what a fault goes on to behind the identifier
+abbrev Naming : Ident → ℕ → Ident → Fault → List Symbol → Top → List Symbol → Type 0
+Naming i a j f = Behind (t.Ident j) (going (Bracketed i a) f)
+
+length_side : (n : ℕ) (i : Ident) (a : ℕ) (j : Ident) (ts : List Symbol) → 2 ≤ n → ReadsBy (Named i a j) (Naming i a j) (λ us. defined_by n i [] (t.OpenBracket a ∷ t.Ident j ∷ us)) ts (defined_by n i [] (t.OpenBracket a ∷ t.Ident j ∷ ts))
 length_side n i a j ts two =
-    value_reads (Behind (t.Ident j) (Behind (t.OpenBracket a) TypeAt)) (Named i a j) (λ us. type_at n (t.OpenBracket a ∷ t.Ident j ∷ us)) (λ ty. defined i [] ty.0) ts
-    (λ us ty rest w. (w.0, d.defines w.0 i (t.OpenBracket a ∷ t.Ident j ∷ us) ty.0 rest w.1)) (type_at n (t.OpenBracket a ∷ t.Ident j ∷ ts)) (length_type n a j ts two)
+    value_by (Behind (t.Ident j) (Behind (t.OpenBracket a) TypeAt)) (λ f. Behind (t.Ident j) (going (Behind (t.OpenBracket a) TypeAt) f)) (Named i a j) (Naming i a j) (λ us. type_at n (t.OpenBracket a ∷ t.Ident j ∷ us)) (λ ty. defined i [] ty.0) ts
+    (λ us ty rest w. (w.0, d.defines w.0 i (t.OpenBracket a ∷ t.Ident j ∷ us) ty.0 rest w.1))
+    (λ f us ty rest w. turned (Behind (t.OpenBracket a) TypeAt) (Bracketed i a) [] ty (defined i [] ty.0) rest rest (λ vs v. (v.0, d.defines v.0 i (t.OpenBracket a ∷ vs) ty.0 rest v.1)) f (t.Ident j ∷ us) w)
+    (type_at n (t.OpenBracket a ∷ t.Ident j ∷ ts)) (length_type n a j ts two)
+
+-- type parameters, which are behind the identifier
+params_by : (n : ℕ) (i : Ident) (a : ℕ) (j : Ident) (ts : List Symbol) → starts shows_length ts ≡ false → ReadsBy (Named i a j) (Naming i a j) (λ us. generic_by n i (t.Ident j ∷ us)) ts (generic_by n i (t.Ident j ∷ ts))
+params_by n i a j ts s =
+    as_by (Named i a j) (Named i a j) (going (Named i a j)) (Naming i a j) (λ us. generic_by n i (t.Ident j ∷ us)) ts (generic_by n i (t.Ident j ∷ ts)) (λ us x rest w. w)
+    (λ f us x rest w. turned (Named i a j) (Bracketed i a) (t.Ident j ∷ []) x x rest rest (λ vs v. v) f us w) (params_side n i a j ts s)
 
 abbrev after_name : ℕ → Ident → ℕ → Ident → List Symbol → Reply Top
 after_name n i a j us = type_first n i (t.OpenBracket a ∷ t.Ident j ∷ us)
 
-name_so : (n : ℕ) (i : Ident) (a : ℕ) (j : Ident) (ts : List Symbol) (b : Bool) → 2 ≤ n → starts shows_length ts ≡ b → ReadsAt (Named i a j) (after_name n i a j) ts (after_name n i a j ts)
+name_so : (n : ℕ) (i : Ident) (a : ℕ) (j : Ident) (ts : List Symbol) (b : Bool) → 2 ≤ n → starts shows_length ts ≡ b → ReadsBy (Named i a j) (Naming i a j) (after_name n i a j) ts (after_name n i a j ts)
 name_so n i a j ts true two s =
-    like_reads (Named i a j) (after_name n i a j) (λ us. defined_by n i [] (t.OpenBracket a ∷ t.Ident j ∷ us)) ts (after_name n i a j ts)
+    like_by (Named i a j) (Naming i a j) (after_name n i a j) (λ us. defined_by n i [] (t.OpenBracket a ∷ t.Ident j ∷ us)) ts (after_name n i a j ts)
     (λ r e. let here : starts shows_length r ≡ true = sym (starts_same shows_length ts r e) ∙ s in rw here refl) (rw s (length_side n i a j ts two))
 name_so n i a j ts false two s =
-    like_reads (Named i a j) (after_name n i a j) (λ us. generic_by n i (t.Ident j ∷ us)) ts (after_name n i a j ts)
-    (λ r e. let here : starts shows_length r ≡ false = sym (starts_same shows_length ts r e) ∙ s in rw here refl) (rw s (params_side n i a j ts s))
+    like_by (Named i a j) (Naming i a j) (after_name n i a j) (λ us. generic_by n i (t.Ident j ∷ us)) ts (after_name n i a j ts)
+    (λ r e. let here : starts shows_length r ≡ false = sym (starts_same shows_length ts r e) ∙ s in rw here refl) (rw s (params_by n i a j ts s))
 
 abbrev after_bracket : ℕ → Ident → ℕ → List Symbol → Reply Top
 after_bracket n i a us = type_first n i (t.OpenBracket a ∷ us)
@@ -272,7 +295,7 @@ bracket_so : (n : ℕ) (i : Ident) (a : ℕ) (ts : List Symbol) → 2 ≤ n → 
 bracket_so n i a [] two =
     like_reads (Bracketed i a) (after_bracket n i a) (λ us. defined_by n i [] (t.OpenBracket a ∷ us)) [] (after_bracket n i a [])
     (ends_so (λ r. after_bracket n i a r ≡ defined_by n i [] (t.OpenBracket a ∷ r)) refl) (plain_side n i a [] two)
-bracket_so n i a (t.Ident j ∷ ts) two = cons_reads (Bracketed i a) (after_bracket n i a) (after_name n i a j) (t.Ident j) ts (after_name n i a j ts) (λ r. refl) (name_so n i a j ts (starts shows_length ts) two refl)
+bracket_so n i a (t.Ident j ∷ ts) two = cons_by (Bracketed i a) (going (Bracketed i a)) (after_bracket n i a) (after_name n i a j) (t.Ident j) ts (after_name n i a j ts) (λ r. refl) (name_so n i a j ts (starts shows_length ts) two refl)
 bracket_so n i a (k ∷ ts) two =
     like_reads (Bracketed i a) (after_bracket n i a) (λ us. defined_by n i [] (t.OpenBracket a ∷ us)) (k ∷ ts) (after_bracket n i a (k ∷ ts))
     (next_is (λ r. after_bracket n i a r ≡ defined_by n i [] (t.OpenBracket a ∷ r)) k (λ r. refl)) (plain_side n i a (k ∷ ts) two)

@@ -2,11 +2,12 @@
 use Rattle.std.proofs.Common.{◌≡◌, ℕ, ◌<◌, ◌≤◌, List, [], ◌∷◌, ◌++◌, length, Ok, ap, subst, arith, length-append}
 use Rattle.go_expr_syntax.specs.declared.symbols.Symbol.{Symbol}
 use Rattle.go_expr_syntax.specs.declared.symbols.Symbol.TheVariants as t
+use Rattle.go_expr_syntax.specs.declared.faults.Fault.{Fault}
 use Rattle.go_expr_syntax.specs.Reading.{Reply, ◌>>=◌, past, is_semicolon, is_open_paren, is_close_paren, row, rows}
 use Rattle.go_syntax.specs.Decls as d
 use Rattle.go_syntax.specs.Decls.{IsBlock, IsGroup}
 use Rattle.go_syntax.specs.Files.{single_at, group_at, decl_more, decl_end, decl_at}
-use Rattle.go_expr_syntax.proofs.Viable.{ReadOk, ReadsAt, Past, After, as_reads, choose_reads, past_reads, bind_reads, value_reads}
+use Rattle.go_expr_syntax.proofs.Viable.{going, ReadOk, ReadsBy, ReadsAt, Past, After, as_reads, choose_reads, past_reads, bind_reads, value_reads}
 use Rattle.go_expr_syntax.proofs.Marks.{semicolon, open_paren, close_paren}
 use Rattle.go_expr_syntax.proofs.Rows.{IsSeries, row_reads, bind_same, past_shorter}
 
@@ -37,17 +38,21 @@ group_reads F one never item ts =
 pub no_longer : {X : Type 0} (F : List Symbol → X → List Symbol → Type 0) (p : List Symbol → Reply X) (ts : List Symbol) (x : X) (rest : List Symbol) → ReadOk F p ts x rest → length rest ≤ length ts
 no_longer F p ts x rest h = rw (h.split, length-append {A = Symbol}) (omega arith)
 
-pub decl_local_at : {X : Type 0} (G : List Symbol → List X → List Symbol → Type 0) (group : List Symbol → Reply (List X)) → ((us : List Symbol) → ReadsAt G group us (group us)) → (ts : List Symbol) (z : List X × List Symbol) → group ts ≡ Ok z
-    → length z.1 ≤ length ts
-decl_local_at G group item ts z e = no_longer G group ts z.0 z.1 (subst (ReadsAt G group ts) e (item ts))
+pub decl_local_at : {X : Type 0} (G : List Symbol → List X → List Symbol → Type 0) (W : Fault → List Symbol → List X → List Symbol → Type 0) (group : List Symbol → Reply (List X)) → ((us : List Symbol) → ReadsBy G W group us (group us)) → (ts : List Symbol) (z : List X × List Symbol)
+    → group ts ≡ Ok z → length z.1 ≤ length ts
+decl_local_at G W group item ts z e = no_longer G group ts z.0 z.1 (subst (ReadsBy G W group ts) e (item ts))
+
+pub decl_same_by : {X : Type 0} (G : List Symbol → List X → List Symbol → Type 0) (W : Fault → List Symbol → List X → List Symbol → Type 0) (group : List Symbol → Reply (List X)) → ((us : List Symbol) → ReadsBy G W group us (group us))
+    → (f g : List Symbol → Reply (List X)) (ts : List Symbol) → ((vs : List Symbol) → length vs < length ts → f vs ≡ g vs) → decl_at group f ts ≡ decl_at group g ts
+decl_same_by G W group item f g ts h =
+    bind_same (group ts) _ _ (λ z e. bind_same (past is_semicolon z.1) _ _ (λ vs p.
+    let a : length z.1 ≤ length ts = decl_local_at G W group item ts z e in
+    let b : length vs < length z.1 = past_shorter is_semicolon z.1 vs p in
+    ap (λ (m : Reply _). m >>= λ ys. Ok (z.0 ++ ys.0, ys.1)) (h vs (omega arith))))
 
 pub decl_same : {X : Type 0} (G : List Symbol → List X → List Symbol → Type 0) (group : List Symbol → Reply (List X)) → ((us : List Symbol) → ReadsAt G group us (group us))
     → (f g : List Symbol → Reply (List X)) (ts : List Symbol) → ((vs : List Symbol) → length vs < length ts → f vs ≡ g vs) → decl_at group f ts ≡ decl_at group g ts
-decl_same G group item f g ts h =
-    bind_same (group ts) _ _ (λ z e. bind_same (past is_semicolon z.1) _ _ (λ vs p.
-    let a : length z.1 ≤ length ts = decl_local_at G group item ts z e in
-    let b : length vs < length z.1 = past_shorter is_semicolon z.1 vs p in
-    ap (λ (m : Reply _). m >>= λ ys. Ok (z.0 ++ ys.0, ys.1)) (h vs (omega arith))))
+decl_same G group item f g ts h = decl_same_by G (going G) group item f g ts h
 
 pub decl_reads : {X : Type 0} (G : List Symbol → List X → List Symbol → Type 0) (group : List Symbol → Reply (List X)) → ((us : List Symbol) → ReadsAt G group us (group us))
     → (Q H : List Symbol → List X → List Symbol → Type 0) (more : List Symbol → Reply (List X)) (ts : List Symbol)

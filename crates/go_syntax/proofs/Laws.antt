@@ -1,16 +1,18 @@
 -- What a whole reading says of the tokens.
-use Rattle.std.proofs.Common.{◌≡◌, ℕ, ◌<◌, ◌≤◌, List, [], ◌∷◌, ◌++◌, length, Option, Some, None, Result, Ok, Err, refl, sym, ap, subst, ◌∙◌, append_assoc, arith}
+use Rattle.std.proofs.Common.{◌≡◌, ℕ, ◌<◌, ◌≤◌, List, [], ◌∷◌, ◌++◌, length, Some, None, Result, Ok, Err, refl, sym, ap, subst, ◌∙◌, append_assoc, arith}
 use Rattle.std.proofs.lemmas.List.{append-nil}
 use Rattle.go_expr_syntax.specs.declared.symbols.Symbol.{Symbol}
 use Rattle.go_syntax.specs.declared.tree.SourceFile.{SourceFile}
 use Rattle.go_expr_syntax.specs.declared.faults.Fault.{Fault}
 use Rattle.go_expr_syntax.specs.declared.faults.Fault.TheVariants.{Unexpected, Deep, DotImport, Call}
 use Rattle.go_expr_syntax.specs.Reading.{Reply, ◌>>=◌}
+use Rattle.go_expr_syntax.specs.Calls.{Called}
 use Rattle.go_syntax.specs.Decls.{IsFileOf}
 use Rattle.go_syntax.specs.Files.{file_front, at_end, file_at}
-use Rattle.go_syntax.specs.Outcomes.{IsFile, BeginsFile, Stops, IsUnexpected, Deepens, GoesOn, IsTooDeep, Explains}
-use Rattle.go_expr_syntax.proofs.Viable.{Meets, ReadOk, ReadNot, ReadsAt, ahead}
-use Rattle.go_syntax.proofs.FileReads.{FileAt, file_reads}
+use Rattle.go_syntax.specs.Outcomes.{IsFile, BeginsFile, Stops, IsUnexpected, Deepens, GoesOnTo, IsTooDeep, IsFileWithDots, IsFileWithCall, IsLeftOut, Explains}
+use Rattle.go_expr_syntax.proofs.Viable.{Meets, ReadOk, ReadNotOn, ReadsBy, ahead}
+use Rattle.go_syntax.proofs.ImportReads.{Wide}
+use Rattle.go_syntax.proofs.FileReads.{FileAt, WideFile, file_reads}
 use Rattle.go_syntax.proofs.FileAgain.{file_again}
 use Rattle.go_expr_syntax.proofs.Agreeing.{Agrees}
 
@@ -29,7 +31,7 @@ found_in n ts f z h e = at_rest z.1 h e
 pub is_found : (n : ℕ) → 2 ≤ n → (ts : List Symbol) (f : SourceFile) → file_at n ts ≡ Ok f → IsFile ts f
 is_found n two ts f e = go (file_front n ts) (file_reads n two ts) e
   where
-    go : (r : Reply SourceFile) → ReadsAt FileAt (file_front n) ts r → (r >>= λ z. at_end z.0 z.1) ≡ Ok f → IsFile ts f
+    go : (r : Reply SourceFile) → ReadsBy FileAt (Wide FileAt WideFile) (file_front n) ts r → (r >>= λ z. at_end z.0 z.1) ≡ Ok f → IsFile ts f
     go (Ok z) h e = found_in n ts f z h e
     go (Err g) h e = absurd cc
 
@@ -70,7 +72,7 @@ clash_call n m k at f r e h = subst (Agrees n m f []) e h
 clash_deep : (n m k began : ℕ) (f : SourceFile) (r : Reply SourceFile) → r ≡ Err (Deep k began) → Agrees n m f [] r → n < m
 clash_deep n m k began f r e h = subst (Agrees n m f []) e h
 
-begins_of : (n : ℕ) (ts : List Symbol) (f : Fault) → (h : ReadNot FileAt (file_front n) ts f) → BeginsFile h.front
+begins_of : (n : ℕ) (ts : List Symbol) (f : Fault) → (h : ReadNotOn FileAt (Wide FileAt WideFile) (file_front n) ts f) → BeginsFile h.front
 begins_of n ts f h = (h.more, h.made, subst (λ us. IsFile us h.made) (ap (λ (us : List Symbol). h.front ++ us) (append-nil h.more)) (h.completes []))
 
 -- where a front stops, whatever follows the next token, it begins no file
@@ -78,7 +80,7 @@ stops_if : (n : ℕ) (front rest : List Symbol) → ((r : List Symbol) (f : Sour
 stops_if n front [] h = λ f w. h [] f w.0 refl (subst (λ us. IsFileOf w.0 us f []) (sym (append-nil front)) w.1)
 stops_if n front (k ∷ ts) h = λ b. h (k ∷ b.0) b.1 b.2.0 refl (subst (λ us. IsFileOf b.2.0 us b.1 []) (append_assoc front (k ∷ []) b.0) b.2.1)
 
-unexpected_at : (n : ℕ) → 2 ≤ n → (ts : List Symbol) (k : ℕ) → ReadNot FileAt (file_front n) ts (Unexpected k) → IsUnexpected ts k
+unexpected_at : (n : ℕ) → 2 ≤ n → (ts : List Symbol) (k : ℕ) → ReadNotOn FileAt (Wide FileAt WideFile) (file_front n) ts (Unexpected k) → IsUnexpected ts k
 unexpected_at n two ts k h = record {
   front = h.front;
   rest = h.rest;
@@ -88,7 +90,14 @@ unexpected_at n two ts k h = record {
   ends = stops_if n h.front h.rest (λ r f m e w. clash_unexpected n m (length r) f (file_front n (h.front ++ r)) (h.stays r e) (again n m two (h.front ++ r) f w));
 }
 
-dot_at : (n : ℕ) → 2 ≤ n → (ts : List Symbol) (k : ℕ) → ReadNot FileAt (file_front n) ts (DotImport k) → IsUnexpected ts k
+goes_if : (G : List Symbol → SourceFile → Type 0) (W : List Symbol → SourceFile → List Symbol → Type 0) → ((us : List Symbol) (f : SourceFile) → W us f [] → G us f) → (front rest : List Symbol) → Meets W front rest → GoesOnTo G front rest
+goes_if G W join front [] h = let c : None ≡ Some h.next = h.comes in absurd cc
+goes_if G W join front (k ∷ ts) h =
+    let c : Some k ≡ Some h.next = h.comes in
+    let same : h.next ≡ k = cc in
+    (h.beyond ++ [], h.formed, subst (λ us. G us h.formed) (ap (λ (j : Symbol). front ++ j ∷ (h.beyond ++ [])) same ∙ sym (append_assoc front (k ∷ []) (h.beyond ++ []))) (join (front ++ (h.next ∷ (h.beyond ++ []))) h.formed (h.goes [])))
+
+dot_at : (n : ℕ) → 2 ≤ n → (ts : List Symbol) (k : ℕ) → ReadNotOn FileAt (Wide FileAt WideFile) (file_front n) ts (DotImport k) → IsLeftOut IsFileWithDots ts k
 dot_at n two ts k h = record {
   front = h.front;
   rest = h.rest;
@@ -96,9 +105,10 @@ dot_at n two ts k h = record {
   place = let e : DotImport k ≡ DotImport (length h.rest) = h.place in cc;
   begins = begins_of n ts (DotImport k) h;
   ends = stops_if n h.front h.rest (λ r f m e w. clash_dot n m (length r) f (file_front n (h.front ++ r)) (h.stays r e) (again n m two (h.front ++ r) f w));
+  goes = goes_if IsFileWithDots WideFile (λ us f w. w) h.front h.rest h.met;
 }
 
-call_at : (n : ℕ) → 2 ≤ n → (ts : List Symbol) (k at : ℕ) → ReadNot FileAt (file_front n) ts (Call k at) → IsUnexpected ts k
+call_at : (n : ℕ) → 2 ≤ n → (ts : List Symbol) (k at : ℕ) → ReadNotOn FileAt (Wide FileAt WideFile) (file_front n) ts (Call k at) → IsLeftOut (IsFileWithCall at) ts k
 call_at n two ts k at h = record {
   front = h.front;
   rest = h.rest;
@@ -106,28 +116,21 @@ call_at n two ts k at h = record {
   place = let e : Call k at ≡ Call (length h.rest) at = h.place in cc;
   begins = begins_of n ts (Call k at) h;
   ends = stops_if n h.front h.rest (λ r f m e w. clash_call n m (length r) at f (file_front n (h.front ++ r)) (h.stays r e) (again n m two (h.front ++ r) f w));
+  goes = goes_if (IsFileWithCall at) (Called FileAt at) (λ us f w. w) h.front h.rest h.met;
 }
 
 deepens_if : (n : ℕ) (front rest : List Symbol) → ((r : List Symbol) (f : SourceFile) (m : ℕ) → ahead rest ≡ ahead r → IsFileOf m (front ++ r) f [] → n < m) → Deepens n front rest
 deepens_if n front [] h = λ f m w. h [] f m refl (subst (λ us. IsFileOf m us f []) (sym (append-nil front)) w)
 deepens_if n front (k ∷ ts) h = λ more f m w. h (k ∷ more) f m refl w
 
-goes_if : (front rest : List Symbol) → Meets FileAt front rest → GoesOn front rest
-goes_if front [] h = let c : None ≡ Some h.next = h.comes in absurd cc
-goes_if front (k ∷ ts) h =
-    let c : Some k ≡ Some h.next = h.comes in
-    let same : h.next ≡ k = cc in
-    let w = h.goes [] in
-    (h.beyond ++ [], h.formed, subst (λ us. IsFile us h.formed) (ap (λ (j : Symbol). front ++ j ∷ (h.beyond ++ [])) same ∙ sym (append_assoc front (k ∷ []) (h.beyond ++ []))) w)
-
-deep_at : (n : ℕ) → 2 ≤ n → (ts : List Symbol) (k began : ℕ) → ReadNot FileAt (file_front n) ts (Deep k began) → IsTooDeep n ts k
+deep_at : (n : ℕ) → 2 ≤ n → (ts : List Symbol) (k began : ℕ) → ReadNotOn FileAt (Wide FileAt WideFile) (file_front n) ts (Deep k began) → IsTooDeep n ts k
 deep_at n two ts k began h = record {
   front = h.front;
   rest = h.rest;
   split = h.split;
   place = let e : Deep k began ≡ Deep (length h.rest) began = h.place in cc;
   begins = begins_of n ts (Deep k began) h;
-  goes = goes_if h.front h.rest h.met;
+  goes = goes_if IsFile FileAt (λ us f w. w) h.front h.rest h.met;
   deeper = deepens_if n h.front h.rest (λ r f m e w. clash_deep n m (length r) began f (file_front n (h.front ++ r)) (h.stays r e) (again n m two (h.front ++ r) f w));
 }
 
@@ -149,7 +152,7 @@ left_at n two ts g k us h = record {
     stop_left [] f m e w = absurd cc
     stop_left (j ∷ r) f m e w = clash_rest n m f g j r (file_front n (h.front ++ j ∷ r)) (h.stays (j ∷ r) e) (again n m two (h.front ++ j ∷ r) f w)
 
-explains_not : (n : ℕ) → 2 ≤ n → (ts : List Symbol) (f : Fault) → ReadNot FileAt (file_front n) ts f → Explains n ts f
+explains_not : (n : ℕ) → 2 ≤ n → (ts : List Symbol) (f : Fault) → ReadNotOn FileAt (Wide FileAt WideFile) (file_front n) ts f → Explains n ts f
 explains_not n two ts (Unexpected k) h = unexpected_at n two ts k h
 explains_not n two ts (Deep k began) h = deep_at n two ts k began h
 explains_not n two ts (DotImport k) h = dot_at n two ts k h
@@ -162,6 +165,9 @@ explains_ok n two ts f g (k ∷ us) h e = let same : Unexpected (length (k ∷ u
 pub explains : (n : ℕ) → 2 ≤ n → (ts : List Symbol) (f : Fault) → file_at n ts ≡ Err f → Explains n ts f
 explains n two ts f e = go (file_front n ts) (file_reads n two ts) e
   where
-    go : (r : Reply SourceFile) → ReadsAt FileAt (file_front n) ts r → ended r ≡ Err f → Explains n ts f
+    go : (r : Reply SourceFile) → ReadsBy FileAt (Wide FileAt WideFile) (file_front n) ts r → ended r ≡ Err f → Explains n ts f
     go (Ok z) h e = explains_ok n two ts f z.0 z.1 h e
     go (Err g) h e = let same : g ≡ f = cc in subst (Explains n ts) same (explains_not n two ts g h)
+
+pub as_unexpected : (G : List Symbol → SourceFile → Type 0) (ts : List Symbol) (left : ℕ) → IsLeftOut G ts left → IsUnexpected ts left
+as_unexpected G ts left h = record { front = h.front; rest = h.rest; split = h.split; place = h.place; begins = h.begins; ends = h.ends }

@@ -3,6 +3,7 @@ pub mod SkipReads
 pub mod GenericReads
 pub mod FuncReads
 pub mod ConstReads
+pub mod ImportReads
 pub mod FileReads
 pub mod ConstTurns
 pub mod GenericAgain

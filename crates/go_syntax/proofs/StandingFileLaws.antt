@@ -1,15 +1,14 @@
 -- A file whose tokens stand in a source stands there.
-use Rattle.std.proofs.Common.{◌≡◌, ◌<◌, ◌≤◌, ◌+◌, ◌-◌, ℕ, zero, suc, max, nat_le, Bool, true, false, List, [], ◌∷◌, ◌++◌, length, Option, Some, None, slice_get, refl, sym, ap, subst, ◌∙◌, arith, length-append}
+use Rattle.std.proofs.Common.{◌≡◌, ◌<◌, ◌≤◌, ◌+◌, ◌-◌, ℕ, zero, suc, nat_le, Bool, true, false, List, [], ◌∷◌, ◌++◌, length, Some, slice_get, refl, sym, ap, subst, ◌∙◌, arith}
 use Rattle.std.proofs.lemmas.Option.{slice_get_within}
 use Rattle.std.proofs.lemmas.Bool.{leb-true, leb-false}
 use Rattle.go_expr_syntax.specs.declared.symbols.Ident.{Ident}
 use Rattle.go_expr_syntax.specs.declared.symbols.Symbol.{Symbol}
 use Rattle.go_expr_syntax.specs.declared.symbols.Symbol.TheVariants as t
 use Rattle.go_expr_syntax.specs.declared.tree.Expr.{Expr}
-use Rattle.go_expr_syntax.specs.StandingExprs.{IdentsStand, PlaceStands, QualifierStands, SymbolStands, SymbolsStand}
+use Rattle.go_expr_syntax.specs.StandingExprs.{IdentsStand, SymbolsStand}
 use Rattle.go_expr_syntax.proofs.StandingLaws.{ident_place, literal_place, names_stand, expr_stands}
-use Rattle.go_type_syntax.specs.declared.tree.TypeExpr.{TypeExpr}
-use Rattle.go_type_syntax.proofs.StandingTypeLaws.{type_in, union_in, sig_in, tree_of, place_of, left_of}
+use Rattle.go_type_syntax.proofs.StandingTypeLaws.{type_in, union_in, sig_in, tree_of, left_of}
 use Rattle.go_syntax.specs.declared.constants.Written.{Written}
 use Rattle.go_syntax.specs.declared.tree.ConstSpec.{ConstSpec}
 use Rattle.go_syntax.specs.declared.tree.FuncDecl.{FuncDecl}
@@ -29,7 +28,7 @@ use Rattle.go_syntax.specs.Constants as c
 use Rattle.go_syntax.specs.Constants.{IsExprs, IsConstSpec, source_of, constants, counted}
 use Rattle.go_syntax.specs.Decls as d
 use Rattle.go_syntax.specs.Decls.{IsImport, IsValue, IsVarSpec, IsTypeSpec, IsBlock, IsGroup, IsImports, IsTops, IsFileOf}
-use Rattle.go_syntax.specs.StandingFiles.{Each, NamesStand, TypeIfAny, ValueStands, ImportStands, TParamStands, ReceiverStands, HasValuesOf, ConstStands, TopStands, FuncStands, IsRepeated, AreRepeated, FileStands}
+use Rattle.go_syntax.specs.StandingFiles.{Each, NamesStand, TypeIfAny, ValueStands, ImportStands, TParamStands, ReceiverStands, HasValuesOf, TopStands, FuncStands, IsRepeated, AreRepeated, FileStands}
 
 pub each_append : {X : Type 0} (P : X → Type 0) (xs ys : List X) → Each P xs → Each P ys → Each P (xs ++ ys)
 each_append P [] ys h k = k

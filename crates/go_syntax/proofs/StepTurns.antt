@@ -8,13 +8,14 @@ use Rattle.go_syntax.specs.declared.tree.Top.{Top}
 use Rattle.go_expr_syntax.specs.declared.faults.Stop.{Stop}
 use Rattle.go_expr_syntax.specs.declared.faults.Stop.TheVariants as stop
 use Rattle.go_expr_syntax.specs.Reading.{Fails, Reply, ◌>>=◌, past, choose, steps, is_semicolon, is_import, is_var, is_type, is_const, is_func}
-use Rattle.go_syntax.specs.Decls.{IsImport, IsVarSpec, IsTypeSpec, IsGroup}
+use Rattle.go_syntax.specs.Decls.{IsVarSpec, IsTypeSpec, IsGroup}
 use Rattle.go_syntax.specs.Files.{import_at, var_spec_at, type_spec_at, group_at, const_group_at, func_group_at, decl_more, decl_end, decl_at, import_step, top_step, some_semicolon, some_decl, no_decl, import_decl, top_decl, step_end}
-use Rattle.go_expr_syntax.proofs.Viable.{ReadsAt}
+use Rattle.go_expr_syntax.proofs.Viable.{going, ReadsBy}
 use Rattle.go_expr_syntax.proofs.Rows.{past_shorter}
 use Rattle.go_expr_syntax.proofs.Steps.{Local, steps_is}
 use Rattle.go_syntax.proofs.Groups.{Any, decl_local_at}
-use Rattle.go_syntax.proofs.FileReads.{import_groups, var_groups, type_groups, ConstsAt, const_groups, FuncsAt, func_groups, import_local, top_local}
+use Rattle.go_syntax.proofs.ImportReads.{Wide, Group, WideGroup, group_reads, import_local}
+use Rattle.go_syntax.proofs.FileReads.{var_groups, type_groups, ConstsAt, const_groups, FuncsAt, func_groups, top_local}
 use Rattle.go_expr_syntax.proofs.Turns.{with_front}
 
 -- a declaration, and then more of them
@@ -97,13 +98,13 @@ semicolon_smaller : {X : Type 0} (xs ys : List X) (ts us : List Symbol) (r : Res
 semicolon_smaller xs ys ts us (Ok vs) p e = let same : vs ≡ us = ap left_of e in rw (sym same) (past_shorter is_semicolon ts vs p)
 semicolon_smaller xs ys ts us (Err f) p e = absurd cc
 
-some_smaller : {X : Type 0} (G : List Symbol → List X → List Symbol → Type 0) (group : List Symbol → Reply (List X)) → ((us : List Symbol) → ReadsAt G group us (group us))
+some_smaller : {X : Type 0} (G : List Symbol → List X → List Symbol → Type 0) (W : Fault → List Symbol → List X → List Symbol → Type 0) (group : List Symbol → Reply (List X)) → ((us : List Symbol) → ReadsBy G W group us (group us))
     → (ts : List Symbol) (ys : List X) (us : List Symbol) (r : Reply (List X)) → group ts ≡ r → (r >>= λ xs. some_semicolon xs.0 xs.1) ≡ got ys us → length us < length ts
-some_smaller G group item ts ys us (Ok z) p e =
-    let a : length z.1 ≤ length ts = decl_local_at G group item ts z p in
+some_smaller G W group item ts ys us (Ok z) p e =
+    let a : length z.1 ≤ length ts = decl_local_at G W group item ts z p in
     let b : length us < length z.1 = semicolon_smaller z.0 ys z.1 us (past is_semicolon z.1) refl e in
     omega arith
-some_smaller G group item ts ys us (Err f) p e = absurd cc
+some_smaller G W group item ts ys us (Err f) p e = absurd cc
 
 choose_smaller : {X : Type 0} (is : Symbol → Bool) (ts : List Symbol) (q : List Symbol → Reply (Option (List X))) (other : Reply (Option (List X))) (ys : List X) (us : List Symbol) (r : Result (List Symbol) Fault) → past is ts ≡ r
     → ((vs : List Symbol) → q vs ≡ got ys us → length us < length vs) → (other ≡ got ys us → length us < length ts) → choose r q other ≡ got ys us → length us < length ts
@@ -129,7 +130,7 @@ import_steps = record {
   local = import_local;
   parts = import_is;
   smaller = λ ts xs us e. choose_smaller is_import ts (some_decl (group_at import_at)) (no_decl ts) xs us (past is_import ts) refl
-      (λ vs h. some_smaller (Any (IsGroup IsImport)) (group_at import_at) import_groups vs xs us (group_at import_at vs) refl h) (λ h. absurd (none_is_none ts xs us h)) e;
+      (λ vs h. some_smaller Group (Wide Group WideGroup) (group_at import_at) group_reads vs xs us (group_at import_at vs) refl h) (λ h. absurd (none_is_none ts xs us h)) e;
 }
 
 pub top_steps : (n : ℕ) → 2 ≤ n → Steps (top_decl n) (top_step n)
@@ -137,13 +138,13 @@ top_steps n two = record {
   local = top_local n two;
   parts = top_is n;
   smaller = λ ts xs us e. choose_smaller is_var ts (some_decl (group_at (var_spec_at n))) _ xs us (past is_var ts) refl
-      (λ vs h. some_smaller (Any (IsGroup IsVarSpec)) (group_at (var_spec_at n)) (var_groups n) vs xs us (group_at (var_spec_at n) vs) refl h)
+      (λ vs h. some_smaller (Any (IsGroup IsVarSpec)) (going (Any (IsGroup IsVarSpec))) (group_at (var_spec_at n)) (var_groups n) vs xs us (group_at (var_spec_at n) vs) refl h)
       (λ o. choose_smaller is_type ts (some_decl (group_at (type_spec_at n))) _ xs us (past is_type ts) refl
-      (λ vs h. some_smaller (Any (IsGroup IsTypeSpec)) (group_at (type_spec_at n)) (type_groups n two) vs xs us (group_at (type_spec_at n) vs) refl h)
+      (λ vs h. some_smaller (Any (IsGroup IsTypeSpec)) (going (Any (IsGroup IsTypeSpec))) (group_at (type_spec_at n)) (type_groups n two) vs xs us (group_at (type_spec_at n) vs) refl h)
       (λ p. choose_smaller is_const ts (some_decl (const_group_at n)) _ xs us (past is_const ts) refl
-      (λ vs h. some_smaller ConstsAt (const_group_at n) (const_groups n) vs xs us (const_group_at n vs) refl h)
+      (λ vs h. some_smaller ConstsAt (going ConstsAt) (const_group_at n) (const_groups n) vs xs us (const_group_at n vs) refl h)
       (λ q. choose_smaller is_func ts (some_decl (func_group_at n)) (no_decl ts) xs us (past is_func ts) refl
-      (λ vs h. some_smaller FuncsAt (func_group_at n) (func_groups n) vs xs us (func_group_at n vs) refl h) (λ h. absurd (none_is_none ts xs us h)) q) p) o) e;
+      (λ vs h. some_smaller FuncsAt (going FuncsAt) (func_group_at n) (func_groups n) vs xs us (func_group_at n vs) refl h) (λ h. absurd (none_is_none ts xs us h)) q) p) o) e;
 }
 
 -- ---- the same of what a call answered

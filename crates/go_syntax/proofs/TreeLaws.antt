@@ -7,9 +7,9 @@ use Rattle.go_syntax.specs.declared.tree.SourceFile.{SourceFile}
 use Rattle.go_expr_syntax.specs.declared.faults.Fault.{Fault}
 use Rattle.go_syntax.specs.Decls.{IsFileOf}
 use Rattle.go_syntax.specs.Files.{file_at}
-use Rattle.go_syntax.specs.Outcomes.{IsFile, BeginsFile, Stops, IsUnexpected, Deepens, IsTooDeep}
+use Rattle.go_syntax.specs.Outcomes.{IsFile, BeginsFile, Stops, IsUnexpected, Deepens, IsTooDeep, IsLeftOut}
 use Rattle.go_expr_syntax.proofs.EitherReads.{goes_further}
-use Rattle.go_syntax.proofs.Laws.{is_only}
+use Rattle.go_syntax.proofs.Laws.{is_only, as_unexpected}
 
 abbrev found : SourceFile → Result SourceFile Fault
 found f = Ok f
@@ -29,6 +29,9 @@ stops_none front (k ∷ ts) f m h w = h (ts, f, (m, subst (λ us. IsFileOf m us 
 
 pub no_unexpected : (ts : List Symbol) (f : SourceFile) (left : ℕ) → IsFile ts f → IsUnexpected ts left → ⊥
 no_unexpected ts f left w h = stops_none h.front h.rest f w.0 h.ends (subst (λ us. IsFileOf w.0 us f []) h.split w.1)
+
+pub no_left_out : (G : List Symbol → SourceFile → Type 0) (ts : List Symbol) (f : SourceFile) (left : ℕ) → IsFile ts f → IsLeftOut G ts left → ⊥
+no_left_out G ts f left w h = no_unexpected ts f left w (as_unexpected G ts left h)
 
 deepens_more : (n : ℕ) (front rest : List Symbol) (f : SourceFile) (m : ℕ) → Deepens n front rest → IsFileOf m (front ++ rest) f [] → n < m
 deepens_more n front [] f m h w = h f m (subst (λ us. IsFileOf m us f []) (append-nil front) w)

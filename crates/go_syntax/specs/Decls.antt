@@ -43,6 +43,12 @@ pub data IsImport : ℕ → List Symbol → Import → List Symbol → Type 0 wh
   named_so : (i : Ident) (s : Quoted) (rest : List Symbol)
       → IsImport 0 (t.Ident i ∷ t.Text s ∷ rest) (import (Some i) s) rest
 
+-- ImportSpec = [ identifier | "." ] string_lit, as Go has it: the dot imports all the names of a package
+pub data IsAnyImport : ℕ → List Symbol → Import → List Symbol → Type 0 where
+  by_name : (n : ℕ) (ts : List Symbol) (x : Import) (rest : List Symbol) → IsImport n ts x rest
+      → IsAnyImport n ts x rest
+  all_names : (d : ℕ) (s : Quoted) (rest : List Symbol) → IsAnyImport 0 (t.Dot d ∷ t.Text s ∷ rest) (import None s) rest
+
 -- [ "=" skipped ], in one line of code
 pub data IsValue : List Symbol → List Symbol → Type 0 where
   no_value : (rest : List Symbol) → IsValue rest rest
@@ -89,12 +95,16 @@ pub data IsGroup {X : Type 0} (F : ℕ → List Symbol → X → List Symbol →
   grouped : (n o : ℕ) (ts : List Symbol) (xs : List X) (rest : List Symbol) → IsBlock F n ts xs rest
       → IsGroup F n (t.OpenParen o ∷ ts) xs rest
 
--- { ImportDecl ";" }
-pub data IsImports : ℕ → List Symbol → List Import → List Symbol → Type 0 where
-  no_import : (rest : List Symbol) → IsImports 0 rest [] rest
+-- { ImportDecl ";" }, of such specifications
+pub data IsImportsOf (F : ℕ → List Symbol → Import → List Symbol → Type 0) : ℕ → List Symbol → List Import → List Symbol
+    → Type 0 where
+  no_import : (rest : List Symbol) → IsImportsOf F 0 rest [] rest
   imports_too : (m n at s : ℕ) (ts us : List Symbol) (xs ys : List Import) (rest : List Symbol)
-      → IsGroup IsImport m ts xs (t.Semicolon s ∷ us) → IsImports n us ys rest
-      → IsImports (max m n) (t.Import at ∷ ts) (xs ++ ys) rest
+      → IsGroup F m ts xs (t.Semicolon s ∷ us) → IsImportsOf F n us ys rest
+      → IsImportsOf F (max m n) (t.Import at ∷ ts) (xs ++ ys) rest
+
+abbrev pub IsImports : ℕ → List Symbol → List Import → List Symbol → Type 0
+IsImports = IsImportsOf IsImport
 
 -- { TopLevelDecl ";" }
 pub data IsTops : ℕ → List Symbol → List Top → List Symbol → Type 0 where
@@ -112,8 +122,12 @@ pub data IsTops : ℕ → List Symbol → List Top → List Symbol → Type 0 wh
       → IsFunc m ts f (t.Semicolon s ∷ us) → IsTops n us ys rest
       → IsTops (max m n) (t.Func at ∷ ts) (top.Func f ∷ ys) rest
 
--- SourceFile = PackageClause ";" { ImportDecl ";" } { TopLevelDecl ";" }
-pub data IsFileOf : ℕ → List Symbol → SourceFile → List Symbol → Type 0 where
+-- SourceFile = PackageClause ";" { ImportDecl ";" } { TopLevelDecl ";" }, with such specifications of imports
+pub data IsFileWith (F : ℕ → List Symbol → Import → List Symbol → Type 0) : ℕ → List Symbol → SourceFile → List Symbol
+    → Type 0 where
   file : (m n at : ℕ) (i : Ident) (s : ℕ) (ts us : List Symbol) (imports : List Import) (tops : List Top)
-      (rest : List Symbol) → IsImports m ts imports us → IsTops n us tops rest
-      → IsFileOf (max m n) (t.Package at ∷ t.Ident i ∷ t.Semicolon s ∷ ts) (source_file i imports tops) rest
+      (rest : List Symbol) → IsImportsOf F m ts imports us → IsTops n us tops rest
+      → IsFileWith F (max m n) (t.Package at ∷ t.Ident i ∷ t.Semicolon s ∷ ts) (source_file i imports tops) rest
+
+abbrev pub IsFileOf : ℕ → List Symbol → SourceFile → List Symbol → Type 0
+IsFileOf = IsFileWith IsImport

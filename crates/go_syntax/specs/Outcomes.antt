@@ -4,7 +4,8 @@ use Rattle.go_expr_syntax.specs.declared.symbols.Symbol.{Symbol}
 use Rattle.go_syntax.specs.declared.tree.SourceFile.{SourceFile}
 use Rattle.go_expr_syntax.specs.declared.faults.Fault.{Fault}
 use Rattle.go_expr_syntax.specs.declared.faults.Fault.TheVariants.{Unexpected, Deep, DotImport, Call}
-use Rattle.go_syntax.specs.Decls.{IsFileOf}
+use Rattle.go_expr_syntax.specs.Calls.{Called}
+use Rattle.go_syntax.specs.Decls.{IsAnyImport, IsFileWith, IsFileOf}
 
 -- all of the tokens are this file, whose paths have any number of nodes
 abbrev pub IsFile : List Symbol → SourceFile → Type 0
@@ -32,10 +33,10 @@ abbrev pub Deepens : ℕ → List Symbol → List Symbol → Type 0
 Deepens n front [] = (f : SourceFile) (m : ℕ) → IsFileOf m front f [] → n < m
 Deepens n front (k ∷ ts) = (more : List Symbol) (f : SourceFile) (m : ℕ) → IsFileOf m (front ++ k ∷ more) f [] → n < m
 
--- with the next token they begin a file
-abbrev pub GoesOn : List Symbol → List Symbol → Type 0
-GoesOn front [] = ⊥
-GoesOn front (k ∷ ts) = BeginsFile (front ++ k ∷ [])
+-- with the next token they begin something of G
+abbrev pub GoesOnTo : (List Symbol → SourceFile → Type 0) → List Symbol → List Symbol → Type 0
+GoesOnTo G front [] = ⊥
+GoesOnTo G front (k ∷ ts) = (more : List Symbol) × (f : SourceFile) × G ((front ++ k ∷ []) ++ more) f
 
 -- The tokens so far begin a file, and with the next one too, but then a path has more than n nodes. So many are left.
 pub record IsTooDeep (n : ℕ) (ts : List Symbol) (left : ℕ) : Type 0 where
@@ -44,12 +45,32 @@ pub record IsTooDeep (n : ℕ) (ts : List Symbol) (left : ℕ) : Type 0 where
   pub split : ts ≡ front ++ rest
   pub place : left ≡ length rest
   pub begins : BeginsFile front
-  pub goes : GoesOn front rest
+  pub goes : GoesOnTo IsFile front rest
   pub deeper : Deepens n front rest
+
+-- ---- what is left out
+
+-- all of the tokens are a file in which an import may be of all the names of a package
+abbrev pub IsFileWithDots : List Symbol → SourceFile → Type 0
+IsFileWithDots ts f = (m : ℕ) × IsFileWith IsAnyImport m ts f []
+
+-- all of the tokens are a file in which one operand of a constant is a call, with its parenthesis at this place
+abbrev pub IsFileWithCall : ℕ → List Symbol → SourceFile → Type 0
+IsFileWithCall at ts f = Called (λ us x rest. (m : ℕ) × IsFileOf m us x rest) at ts f []
+
+-- The tokens so far begin a file, and with the next one they begin none, but something of G. So many are left.
+pub record IsLeftOut (G : List Symbol → SourceFile → Type 0) (ts : List Symbol) (left : ℕ) : Type 0 where
+  pub front : List Symbol
+  pub rest : List Symbol
+  pub split : ts ≡ front ++ rest
+  pub place : left ≡ length rest
+  pub begins : BeginsFile front
+  pub ends : Stops front rest
+  pub goes : GoesOnTo G front rest
 
 -- what each fault says of the tokens, where n nodes are allowed
 abbrev pub Explains : ℕ → List Symbol → Fault → Type 0
 Explains n ts (Unexpected left) = IsUnexpected ts left
 Explains n ts (Deep left at) = IsTooDeep n ts left
-Explains n ts (DotImport left) = IsUnexpected ts left
-Explains n ts (Call left at) = IsUnexpected ts left
+Explains n ts (DotImport left) = IsLeftOut IsFileWithDots ts left
+Explains n ts (Call left at) = IsLeftOut (IsFileWithCall at) ts left

@@ -2,7 +2,7 @@ ghost use Rattle.std.specs.Prelude.{◌≡◌, ◌<◌, ℕ, List, []};
 ghost use Rattle.go_expr_syntax.specs.declared.symbols.Symbol.{Symbol};
 ghost use Rattle.go_syntax.specs.declared.tree.SourceFile.{SourceFile};
 ghost use Rattle.go_syntax.specs.Decls.{IsFileOf};
-ghost use Rattle.go_syntax.specs.Outcomes.{IsFile, IsUnexpected, IsTooDeep};
+ghost use Rattle.go_syntax.specs.Outcomes.{IsFile, IsUnexpected, IsTooDeep, IsFileWithDots, IsFileWithCall, IsLeftOut};
 
 /// A list of tokens is at most one file.
 pub fn one_tree()
@@ -10,13 +10,22 @@ pub fn one_tree()
         → f ≡ g }
 {}
 
-/// Tokens that are a file have no fault: none of them is unexpected, and a path is too long only in a file that has
-/// such a path.
+/// Tokens that are a file have no fault: none of them is unexpected, none shows what is left out, and a path is too
+/// long only in a file that has such a path.
 pub fn no_fault_of_a_file()
     ensures unexpected { (tokens : List Symbol) (f : SourceFile) (left : ℕ) → IsFile tokens f
         → IsUnexpected tokens left → ⊥ }
     ensures too_deep { (tokens : List Symbol) (f : SourceFile) (m n left : ℕ) → IsFileOf m tokens f []
         → IsTooDeep n tokens left → n < m }
+    ensures dots { (tokens : List Symbol) (f : SourceFile) (left : ℕ) → IsFile tokens f
+        → IsLeftOut IsFileWithDots tokens left → ⊥ }
+    ensures call { (tokens : List Symbol) (f : SourceFile) (at left : ℕ) → IsFile tokens f
+        → IsLeftOut (IsFileWithCall at) tokens left → ⊥ }
+{}
+
+/// Each file is one of the wider grammar, where imports may be of all the names of a package.
+pub fn dots_are_wider()
+    ensures { (tokens : List Symbol) (f : SourceFile) → IsFile tokens f → IsFileWithDots tokens f }
 {}
 
 /// Tokens that are no file have one first token that is unexpected, or end too early: there is one, and no other.

@@ -18,7 +18,7 @@ use Rattle.go_expr_syntax.specs.Reading.{shows_elem}
 use Rattle.go_expr_syntax.proofs.Viable.{next_is, ends_so, ReadsOn, ReadsAt, ended_on, deep_on, cons_on, like_on, peek_on, Sample, Behind, Past, After, done_reads, deep_next, like_reads, as_reads, cons_reads, choose_reads, peek_reads, stuck_reads, deep_reads, bind_reads, value_reads}
 use Rattle.go_expr_syntax.proofs.Marks.{semicolon, comma, open_bracket, close_bracket, close_brace, bar}
 use Rattle.go_expr_syntax.proofs.NameReads.{any_ident, dotted_reads}
-use Rattle.go_type_syntax.proofs.Standing.{Begun, TypeAt, TypesAt, NamedAt, SigAt, TermAt, TermsAt, UnionAt, ElemAt, ElemsAt, Placed, dotted_stands, applied_stands, plain_stands, name_stands, some_type, no_type_here, no_term, no_union, no_elem_here, placed_reads}
+use Rattle.go_type_syntax.proofs.Standing.{no_literal, no_union_literal, Begun, TypeAt, TypesAt, NamedAt, SigAt, TermAt, TermsAt, UnionAt, ElemAt, ElemsAt, Placed, dotted_stands, applied_stands, plain_stands, name_stands, some_type, no_type_here, no_term, no_union, no_elem_here, placed_reads}
 use Rattle.go_type_syntax.proofs.Follows.{type_opens}
 use Rattle.go_expr_syntax.proofs.Rows.{IsSeries, series_on, series_reads, end_reads, IsChain, chain_reads}
 use Rattle.go_type_syntax.proofs.ParamReads.{ReadsTypes, sig_reads}
@@ -78,7 +78,7 @@ name_reads n inner h i ts =
 plain_reads : (lower : List Symbol → Reply (Fit TypeExpr)) → ReadsTypes lower → (ts : List Symbol) → ReadsAt TermAt (plain_term lower) ts (plain_term lower ts)
 plain_reads lower h ts =
     value_reads (Placed TypeAt) TermAt (placed lower) (λ x. (term false x.0.0 x.1, x.0.1)) ts (λ us x rest w. rw w.1 (w.0.0, g.exactly w.0.0 us x.0.0 rest w.0.1)) (placed lower ts)
-    (placed_reads TypeAt lower ts no_type_here (lower ts) (h ts))
+    (placed_reads TypeAt lower ts no_type_here no_literal (lower ts) (h ts))
 
 pub term_reads : (lower : List Symbol → Reply (Fit TypeExpr)) → ReadsTypes lower → (ts : List Symbol) → ReadsAt TermAt (term_at lower) ts (term_at lower ts)
 term_reads lower h [] = like_reads TermAt (term_at lower) (plain_term lower) [] (plain_term lower []) (ends_so (λ r. term_at lower r ≡ plain_term lower r) refl) (plain_reads lower h [])
@@ -130,7 +130,7 @@ first_reads inner lower h k ts =
     bind_reads (Placed TypeAt) UnionAt (placed inner) (λ x us. after_type lower x.0.0 x.0.1 x.1 us) ts
     (λ x. record { tokens = []; made = (x.0.0, 0); stands = λ tail us w. (w.0.0, g.alone w.0.0 us x.0.0 tail w.0.1) })
     (λ x us o. as_first lower k x us)
-    (placed inner ts) (placed_reads TypeAt inner ts no_type_here (inner ts) (h ts))
+    (placed inner ts) (placed_reads TypeAt inner ts no_type_here no_literal (inner ts) (h ts))
   where
     as_first : (lower : List Symbol → Reply (Fit TypeExpr)) → ReadsTypes lower → (x : Fit TypeExpr × ℕ) (us : List Symbol) → ReadsAt (After (Placed TypeAt) UnionAt x) (after_type lower x.0.0 x.0.1 x.1) us (after_type lower x.0.0 x.0.1 x.1 us)
     as_first lower k x us = as_reads (FirstAt x.0.0 x.1) (After (Placed TypeAt) UnionAt x) (after_type lower x.0.0 x.0.1 x.1) us (after_type lower x.0.0 x.0.1 x.1 us) (λ vs z rest q ts w. q ts w.0.0 w.0.1 w.1) (type_after lower k x.0.0 x.0.1 x.1 us)
@@ -264,7 +264,7 @@ named_elem_reads n inner lower h d k i ts =
 union_elem_reads : (n : ℕ) (inner lower : List Symbol → Reply (Fit TypeExpr)) → ReadsTypes inner → ReadsTypes lower → (ts : List Symbol) → ReadsAt ElemAt (union_elem n inner lower) ts (union_elem n inner lower ts)
 union_elem_reads n inner lower h k ts =
     value_reads (Placed UnionAt) ElemAt (placed (union_at n inner lower)) (λ x. (elem.Embedded x.0.0 x.1, x.0.1)) ts (λ us x rest w. rw w.1 (w.0.0, g.embeds w.0.0 us x.0.0 rest w.0.1)) (placed (union_at n inner lower) ts)
-    (placed_reads UnionAt (union_at n inner lower) ts no_union (union_at n inner lower ts) (union_reads n inner lower h k ts))
+    (placed_reads UnionAt (union_at n inner lower) ts no_union no_union_literal (union_at n inner lower ts) (union_reads n inner lower h k ts))
 
 pub elem_reads : (n : ℕ) (inner lower : List Symbol → Reply (Fit TypeExpr)) → ReadsTypes inner → Begun n inner → ReadsTypes lower → (ts : List Symbol) → ReadsOn ElemAt ClosedElem (elem_at n inner lower) ts (elem_at n inner lower ts)
 elem_reads n inner lower h d k [] = like_on ElemAt ClosedElem (elem_at n inner lower) (union_elem n inner lower) [] (union_elem n inner lower []) (ends_so (λ r. elem_at n inner lower r ≡ union_elem n inner lower r) refl) (closed_reads (union_elem n inner lower) [] (union_elem_reads n inner lower h k []))

@@ -1,6 +1,7 @@
 -- What the readers of fields do.
 use Rattle.std.proofs.Common.{◌≡◌, ℕ, zero, suc, max, Bool, true, List, [], ◌∷◌, refl, sym, subst, ◌∙◌}
 use Rattle.go_expr_syntax.specs.declared.symbols.Symbol.{Symbol}
+use Rattle.go_lexer.specs.declared.token_kinds.Token.{Token}
 use Rattle.go_expr_syntax.specs.declared.symbols.Symbol.TheVariants as t
 use Rattle.go_expr_syntax.specs.declared.symbols.Ident.{Ident}
 use Rattle.go_type_syntax.specs.declared.tree.FieldExpr.{FieldExpr}
@@ -12,12 +13,12 @@ use Rattle.go_type_syntax.specs.Grammar as g
 use Rattle.go_type_syntax.specs.Grammar.{instance, named, field, IsType, IsNamed, IsFields}
 use Rattle.go_type_syntax.specs.Types.{tagged, shared_by, embedded_by, star_by, star_at, lone_by, only_by, array_or_instance, sole_by, more_names, first_by, field_by, fields_at}
 use Rattle.go_expr_syntax.specs.Reading.{shows_embedded}
-use Rattle.go_expr_syntax.proofs.Viable.{ReadsOn, ReadsAt, Sample, ended_on, deep_on, cons_on, peek_on, choose_on, Behind, Past, After, refuse_next, refuse_end, deep_next, as_reads, like_reads, cons_reads, choose_reads, peek_reads, stuck_reads, deep_reads, bind_reads, value_reads, only_reads, starts_same}
+use Rattle.go_expr_syntax.proofs.Viable.{ReadsOn, ReadsAt, Sample, ended_on, deep_on, cons_on, peek_on, choose_on, Behind, Past, After, refuse_next, refuse_end, deep_next, as_reads, like_reads, cons_reads, peek_reads, stuck_reads, bind_reads, value_reads, only_reads, starts_same}
 use Rattle.go_expr_syntax.proofs.EitherReads.{either_on}
 use Rattle.go_expr_syntax.proofs.Marks.{comma, semicolon, close_brace}
 use Rattle.go_expr_syntax.proofs.NameReads.{any_ident, tag_of, tag_reads, names_reads, through_value}
 use Rattle.go_expr_syntax.proofs.Rows.{IsSeries, series_on}
-use Rattle.go_type_syntax.proofs.Standing.{Begun, dotted_stands, applied_stands, plain_stands, name_stands, no_type_of, TypeAt, NamedAt, FieldAt, FieldsAt, some_field, no_field}
+use Rattle.go_type_syntax.proofs.Standing.{no_literal_of, Begun, dotted_stands, applied_stands, plain_stands, name_stands, no_type_of, TypeAt, NamedAt, FieldAt, FieldsAt, some_field, no_field}
 
 -- after the names
 shared_reads : (inner : List Symbol → Reply (Fit TypeExpr)) → ((us : List Symbol) → ReadsAt TypeAt inner us (inner us)) → (i : Ident) (names : List Ident) (ts : List Symbol)
@@ -168,11 +169,16 @@ no_pointer : (m at : ℕ) (x : TypeExpr) (rest : List Symbol) → IsType m (t.St
 no_pointer m at x rest (g.name n us z r (g.by_name j vs a ws args r' b c)) = elim b [ ]
 no_pointer m at x rest (g.pointer n at' us ty r w) = no_type_of n ty rest w
 
+no_literal_pointer : (m at : ℕ) (token : Token) (us : List Symbol) (x : TypeExpr) (rest : List Symbol) → IsType m (t.Star at ∷ t.Literal token ∷ us) x rest → ⊥
+no_literal_pointer m at token us x rest (g.name n vs z r (g.by_name j ws a xs args r' b c)) = elim b [ ]
+no_literal_pointer m at token us x rest (g.pointer n at' vs ty r w) = no_literal_of n token us ty r w
+
 pointed_reads : (n : ℕ) (inner : List Symbol → Reply (Fit TypeExpr)) → Begun n inner → (n ≡ 0 → ⊥) → (at : ℕ) (ts : List Symbol) → starts is_ident ts ≡ true → ReadsAt (StarAt at) (λ r. inner (t.Star at ∷ r)) ts (inner (t.Star at ∷ ts))
 pointed_reads n inner b z at ts e =
     only_reads (Behind (t.Star at) TypeAt) (StarAt at) (λ r. inner (t.Star at ∷ r)) ts
     (λ k us x rest a w. pointer_of w.0 at k us x.0 rest (sym (starts_same is_ident ts (k ∷ []) a) ∙ e) w.1)
     (λ x us w. no_pointer w.0 at x.0 us w.1)
+    (λ token us x rest w. no_literal_pointer w.0 at token us x.0 rest w.1)
     (record { tokens = t.Ident any_ident ∷ []; made = (y.Pointer (named (plain any_ident)) at, 0); stands = λ tail. (1, named (plain any_ident), refl, plain_stands any_ident tail) })
     (inner (t.Star at ∷ ts)) (b.star at ts z)
 

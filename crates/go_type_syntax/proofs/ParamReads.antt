@@ -17,7 +17,7 @@ use Rattle.go_expr_syntax.proofs.Viable.{next_is, ends_so, ReadsAt, Sample, Behi
 use Rattle.go_expr_syntax.proofs.EitherReads.{either_on}
 use Rattle.go_expr_syntax.proofs.Marks.{comma, ellipsis, open_paren, close_paren}
 use Rattle.go_expr_syntax.proofs.NameReads.{IsIdent, any_ident, ident_reads, names_reads, through_value}
-use Rattle.go_type_syntax.proofs.Standing.{Begun, type_begun_by, dotted_stands, applied_stands, NamedAt, TypeAt, ParamAt, ParamsAt, SigAt, Placed, name_stands, no_type_here, no_type_of, no_param, placed_reads}
+use Rattle.go_type_syntax.proofs.Standing.{no_literal, no_literal_of, Begun, type_begun_by, dotted_stands, applied_stands, NamedAt, TypeAt, ParamAt, ParamsAt, SigAt, Placed, name_stands, no_type_here, no_type_of, no_param, placed_reads}
 use Rattle.go_expr_syntax.proofs.Rows.{IsSeries, series_reads, end_reads}
 
 -- what reads the types inside
@@ -29,7 +29,7 @@ ReadsTypes inner = (us : List Symbol) → ReadsAt TypeAt inner us (inner us)
 type_reads : (v : Bool) (inner : List Symbol → Reply (Fit TypeExpr)) → ReadsTypes inner → (ts : List Symbol) → ReadsAt (ParamAt false v) (type_param inner) ts (type_param inner ts)
 type_reads v inner h ts =
     value_reads (Placed TypeAt) (ParamAt false v) (placed inner) (λ x. item [] false x.0 x.1) ts (λ us x rest w. rw w.1 (w.0.0, g.unnamed v w.0.0 us x.0.0 rest w.0.1)) (placed inner ts)
-    (placed_reads TypeAt inner ts no_type_here (inner ts) (h ts))
+    (placed_reads TypeAt inner ts no_type_here no_literal (inner ts) (h ts))
 
 unnamed_reads : (v : Bool) (inner : List Symbol → Reply (Fit TypeExpr)) → ReadsTypes inner → (ts : List Symbol) → ReadsAt (ParamAt false v) (unnamed_param v inner) ts (unnamed_param v inner ts)
 unnamed_reads false inner h ts = type_reads false inner h ts
@@ -350,10 +350,10 @@ bare_result : (inner : List Symbol → Reply (Fit TypeExpr)) → ReadsTypes inne
 bare_result inner h ts e =
     only_reads ResultAt BareResultAt (type_param inner) ts
     (λ k us x rest a w. (w.0, w.1, w.2, w.3, sym (starts_same is_open_paren ts (k ∷ []) a) ∙ e))
-    (λ x us w. no_type_of w.0 w.1 us w.2)
+    (λ x us w. no_type_of w.0 w.1 us w.2) (λ token us x rest w. no_literal_of w.0 token us w.1 rest w.2)
     (record { tokens = t.Ident any_ident ∷ []; made = item [] false (named (plain any_ident), 0) 0; stands = λ tail. (1, named (plain any_ident), name_stands any_ident tail, refl, refl) })
     (type_param inner ts)
-    (value_reads (Placed TypeAt) ResultAt (placed inner) (λ x. item [] false x.0 x.1) ts (λ us x rest w. rw w.1 (w.0.0, x.0.0, w.0.1, refl)) (placed inner ts) (placed_reads TypeAt inner ts no_type_here (inner ts) (h ts)))
+    (value_reads (Placed TypeAt) ResultAt (placed inner) (λ x. item [] false x.0 x.1) ts (λ us x rest w. rw w.1 (w.0.0, x.0.0, w.0.1, refl)) (placed inner ts) (placed_reads TypeAt inner ts no_type_here no_literal (inner ts) (h ts)))
 
 abbrev SigRest : ℕ → Fit (List ParamExpr) → List Symbol → Fit SigExpr → List Symbol → Type 0
 SigRest at ps = After (ListAt true) (Behind (t.OpenParen at) SigAt) ps

@@ -1,5 +1,5 @@
 -- Types as plain trees, a case a variant.
-use Rattle.std.proofs.Common.{◌≡◌, ℕ, Bool, List, [], ◌∷◌, map, refl, sym, ap, ◌∙◌}
+use Rattle.std.proofs.Common.{◌≡◌, ℕ, Bool, List, map, sym, ap, ◌∙◌}
 use Rattle.go_lexer.specs.declared.token_kinds.Token.{Token}
 use Rattle.go_expr_syntax.specs.declared.symbols.Ident.{Ident}
 use Rattle.go_expr_syntax.specs.declared.tree.NameExpr.{NameExpr}
@@ -7,7 +7,7 @@ use Rattle.go_expr_syntax.specs.declared.tree.Expr.{Expr}
 use Rattle.go_expr_syntax.specs.PlainExprs.{plain_name, plain_expr}
 use Rattle.go_type_syntax.specs.declared.tree.FieldExpr.{FieldExpr}
 use Rattle.go_type_syntax.specs.declared.tree.ParamExpr.{ParamExpr}
-use Rattle.go_type_syntax.specs.declared.tree.SigExpr.{SigExpr, roll-SigExpr}
+use Rattle.go_type_syntax.specs.declared.tree.SigExpr.{SigExpr}
 use Rattle.go_type_syntax.specs.declared.tree.TermExpr.{TermExpr}
 use Rattle.go_type_syntax.specs.declared.tree.ElemExpr.{ElemExpr}
 use Rattle.go_type_syntax.specs.declared.tree.ElemExpr.TheVariants as e
@@ -15,7 +15,7 @@ use Rattle.go_type_syntax.specs.declared.tree.TypeExpr.{TypeExpr}
 use Rattle.go_type_syntax.specs.declared.tree.TypeExpr.TheVariants as y
 use Rattle.go_type_syntax.specs.declared.tree.ElemExpr.TheOpen.{ElemExpr-F, TypeExpr-F}
 use Rattle.go_type_syntax.specs.declared.tree.ElemExpr.TheFolds.{fold-roll-ElemExpr, fold-roll-TypeExpr, fold-roll-SigExpr, fold_out-FieldExpr, fold_out-ParamExpr, fold_out-TermExpr}
-use Rattle.go_type_syntax.specs.Grammar.{field, param, signature, term}
+use Rattle.go_type_syntax.specs.Grammar.{signature}
 use Rattle.go_type_syntax.specs.PlainTypes as p
 use Rattle.go_type_syntax.specs.PlainTypes.{PlainType, PlainSig, PlainField, PlainParam, PlainElem, PlainTerm, types_of, fields_of, params_of, elems_of, terms_of, type_step, elem_step, field_step, param_step, sig_step, term_step}
 use Rattle.go_type_syntax.specs.PlainTypes.{plain_type, plain_sig, plain_field, plain_param, plain_elem, plain_term}

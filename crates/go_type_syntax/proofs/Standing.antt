@@ -1,6 +1,8 @@
 -- What stands somewhere, of any number of nodes, and the least that does.
-use Rattle.std.proofs.Common.{◌≡◌, ℕ, Bool, true, false, List, [], ◌∷◌, ◌++◌, Ok, Err, refl, sym, ap, ◌∙◌, append_assoc}
+use Rattle.std.proofs.Common.{◌≡◌, ℕ, Bool, true, false, List, [], ◌∷◌, ◌++◌, Ok, Err, refl, sym, ap, subst, ◌∙◌, append_assoc}
 use Rattle.go_expr_syntax.specs.declared.symbols.Symbol.{Symbol}
+use Rattle.go_expr_syntax.specs.Calls.{Called}
+use Rattle.go_lexer.specs.declared.token_kinds.Token.{Token}
 use Rattle.go_expr_syntax.specs.declared.symbols.Symbol.TheVariants as t
 use Rattle.go_expr_syntax.specs.declared.symbols.Ident.{Ident}
 use Rattle.go_expr_syntax.specs.declared.faults.Fault.{Fault}
@@ -17,7 +19,7 @@ use Rattle.go_expr_syntax.specs.Reading.{Reply, ◌>>=◌, begins_type, start_of
 use Rattle.go_expr_syntax.specs.Names.{plain, selected, own, of_package, none}
 use Rattle.go_type_syntax.specs.Grammar as g
 use Rattle.go_type_syntax.specs.Grammar.{instance, named, field, param, signature, IsType, IsNamed, IsArgs, IsTypes, IsField, IsFields, IsParam, IsParams, IsSig, IsTerm, IsTerms, IsUnion, IsElem, IsElems}
-use Rattle.go_expr_syntax.proofs.Viable.{ReadsAt, Sample, Behind, Goes}
+use Rattle.go_expr_syntax.proofs.Viable.{ReadsAt, Sample, Behind, going, Goes}
 use Rattle.go_expr_syntax.proofs.NameReads.{any_ident, no_names, no_type_name}
 
 abbrev pub TypeAt : List Symbol → Fit TypeExpr → List Symbol → Type 0
@@ -132,6 +134,13 @@ no_type_of m ty us (g.name n ts z r a) = no_named n ty us a
 pub no_type_here : (x : Fit TypeExpr) (us : List Symbol) → TypeAt [] x us → ⊥
 no_type_here x us w = no_type_of w.0 x.0 us w.1
 
+pub no_literal_of : (m : ℕ) (token : Token) (us : List Symbol) (ty : TypeExpr) (rest : List Symbol) → IsType m (t.Literal token ∷ us) ty rest → ⊥
+no_literal_of m token us ty rest (g.name n ts z r (g.by_name k vs x ws args r' a b)) = elim a [ ]
+
+-- no type begins with a literal
+pub no_literal : (token : Token) (us : List Symbol) (x : Fit TypeExpr) (rest : List Symbol) → TypeAt (t.Literal token ∷ us) x rest → ⊥
+no_literal token us x rest w = no_literal_of w.0 token us x.0 rest w.1
+
 pub no_field : (m : ℕ) (f : FieldExpr) (us : List Symbol) → IsField m [] f us → ⊥
 no_field m f us (g.shared n i names ts vs ty ws tag rest a b c) = no_names (i ∷ names) vs a
 no_field m f us (g.embedded n ts ty vs tag rest a b) = no_named n ty vs a
@@ -152,6 +161,13 @@ no_term x us w = no_term_of w.0 x.0 us w.1
 no_union_of : (m : ℕ) (x : TypeExpr) (us : List Symbol) → IsUnion m [] x us → ⊥
 no_union_of m x us (g.alone n ts ty rest a) = no_type_of n ty us a
 no_union_of m x us (g.several k n b ts vs x' xs rest a c) = no_term_of k x' (t.Bar b ∷ vs) a
+
+no_union_literal_of : (m : ℕ) (token : Token) (us : List Symbol) (ty : TypeExpr) (rest : List Symbol) → IsUnion m (t.Literal token ∷ us) ty rest → ⊥
+no_union_literal_of m token us ty rest (g.alone n ts z r a) = no_literal_of n token us z r a
+no_union_literal_of m token us ty rest (g.several k n b ts vs x xs r (g.exactly j ts' z r' a) c) = no_literal_of j token us z r' a
+
+pub no_union_literal : (token : Token) (us : List Symbol) (x : Fit TypeExpr) (rest : List Symbol) → UnionAt (t.Literal token ∷ us) x rest → ⊥
+no_union_literal token us x rest w = no_union_literal_of w.0 token us x.0 rest w.1
 
 pub no_union : (x : Fit TypeExpr) (us : List Symbol) → UnionAt [] x us → ⊥
 no_union x us w = no_union_of w.0 x.0 us w.1
@@ -182,27 +198,50 @@ start_next : (front : List Symbol) (k : Symbol) (a b : List Symbol) → start_of
 start_next [] k a b = refl
 start_next (j ∷ front) k a b = refl
 
-placed_goes : {X : Type 0} (F : List Symbol → X → List Symbol → Type 0) (front rest : List Symbol) (f : Fault) → Goes f F front rest → Goes f (Placed F) front rest
-placed_goes F front rest (Unexpected k) h = tt
-placed_goes F front rest (Deep k began) h = record {
+-- a call begins no earlier than behind the first token, where none of F begins with a literal
+placed_called : {X : Type 0} (F : List Symbol → X → List Symbol → Type 0) → ((token : Token) (us : List Symbol) (x : X) (rest : List Symbol) → F (t.Literal token ∷ us) x rest → ⊥) → (at : ℕ) (us : List Symbol) (x : X) (rest : List Symbol) → Called F at us x rest
+    → Called (Placed F) at us (x, start_of us) rest
+placed_called F literally at us x rest h = at_front h.before h.split h.stands
+  where
+    at_front : (before : List Symbol) → us ≡ before ++ h.call → F (before ++ t.Literal h.literal ∷ h.after) x rest → Called (Placed F) at us (x, start_of us) rest
+    at_front [] split w = absurd (literally h.literal h.after x rest w)
+    at_front (j ∷ before) split w = record { before = j ∷ before; call = h.call; after = h.after; literal = h.literal; split = split; calls = h.calls; stands = (w, ap start_of split) }
+
+placed_goes : {X : Type 0} (F : List Symbol → X → List Symbol → Type 0) (front rest : List Symbol) → ((token : Token) (us : List Symbol) (x : X) (r : List Symbol) → F (t.Literal token ∷ us) x r → ⊥) → (f : Fault) → Goes f (going F) front rest → Goes f (going (Placed F)) front rest
+placed_goes F front rest literally (Unexpected k) h = tt
+placed_goes F front rest literally (Deep k began) h = record {
   next = h.next;
   comes = h.comes;
   beyond = h.beyond;
   formed = (h.formed, start_of (front ++ h.next ∷ []));
   goes = λ tail. (h.goes tail, start_next front h.next [] (h.beyond ++ tail));
 }
-placed_goes F front rest (DotImport k) h = tt
-placed_goes F front rest (Call k at) h = tt
+placed_goes F front rest literally (DotImport k) h = record {
+  next = h.next;
+  comes = h.comes;
+  beyond = h.beyond;
+  formed = (h.formed, start_of (front ++ h.next ∷ []));
+  goes = λ tail. (h.goes tail, start_next front h.next [] (h.beyond ++ tail));
+}
+placed_goes F front rest literally (Call k at) h = record {
+  next = h.next;
+  comes = h.comes;
+  beyond = h.beyond;
+  formed = (h.formed, start_of (front ++ h.next ∷ []));
+  goes = λ tail.
+      subst (λ place. Called (Placed F) at (front ++ (h.next ∷ (h.beyond ++ tail))) (h.formed, place) tail) (sym (start_next front h.next [] (h.beyond ++ tail)))
+      (placed_called F literally at (front ++ (h.next ∷ (h.beyond ++ tail))) h.formed tail (h.goes tail));
+}
 
 pub placed_reads : {X : Type 0} (F : List Symbol → X → List Symbol → Type 0) (p : List Symbol → Reply X) (ts : List Symbol) → ((z : X) (us : List Symbol) → F [] z us → ⊥)
-    → (reply : Reply X) → ReadsAt F p ts reply → ReadsAt (Placed F) (placed p) ts (place_by (start_of ts) reply)
-placed_reads F p ts never (Ok z) h = record {
+    → ((token : Token) (us : List Symbol) (x : X) (rest : List Symbol) → F (t.Literal token ∷ us) x rest → ⊥) → (reply : Reply X) → ReadsAt F p ts reply → ReadsAt (Placed F) (placed p) ts (place_by (start_of ts) reply)
+placed_reads F p ts never literally (Ok z) h = record {
   front = h.front;
   split = h.split;
   stands = λ tail. (h.stands tail, ap start_of h.split ∙ start_front F z.0 h.front never h.stands z.1 tail);
   stays = λ r e. ap (place_by (start_of (h.front ++ r))) (h.stays r e) ∙ ap (placed_as z.0 r) (start_front F z.0 h.front never h.stands r z.1 ∙ sym (ap start_of h.split));
 }
-placed_reads F p ts never (Err f) h =
+placed_reads F p ts never literally (Err f) h =
     let whole : (tail : List Symbol) → F ((h.front ++ h.more) ++ tail) h.made tail = λ tail. rw append_assoc (h.completes tail) in
     record {
       front = h.front;
@@ -213,7 +252,7 @@ placed_reads F p ts never (Err f) h =
       more = h.more;
       made = (h.made, start_of ((h.front ++ h.more) ++ []));
       completes = λ tail. (h.completes tail, start_front F h.made (h.front ++ h.more) never whole [] tail ∙ ap start_of (append_assoc h.front h.more tail));
-      met = placed_goes F h.front h.rest f h.met;
+      met = placed_goes F h.front h.rest literally f h.met;
     }
 
 -- what a reader of types does after a first token, where a node is left for the type

@@ -1,12 +1,11 @@
 -- A type begins at its first token, and one whose tokens stand in a source stands there.
-use Rattle.std.proofs.Common.{◌≡◌, ◌<◌, ℕ, suc, max, Bool, true, false, List, [], ◌∷◌, map, length, refl, sym, ap, subst, ◌∙◌}
+use Rattle.std.proofs.Common.{◌≡◌, ℕ, Bool, true, false, List, [], ◌∷◌, map, refl, sym, ap, subst, ◌∙◌}
 use Rattle.go_expr_syntax.specs.declared.symbols.Ident.{Ident}
 use Rattle.go_expr_syntax.specs.declared.symbols.Symbol.{Symbol}
 use Rattle.go_expr_syntax.specs.declared.symbols.Symbol.TheVariants as t
 use Rattle.go_expr_syntax.specs.declared.tree.NameExpr.{NameExpr}
 use Rattle.go_expr_syntax.specs.Names.{IsTypeName, own, of_package}
 use Rattle.go_expr_syntax.specs.Reading.{start_of}
-use Rattle.go_expr_syntax.specs.PlainExprs.{plain_name}
 use Rattle.go_expr_syntax.specs.StandingExprs.{IdentsStand, PlaceStands, SymbolsStand}
 use Rattle.go_expr_syntax.proofs.StandingLaws.{ident_place, name_stands, names_stand, tag_stands, expr_stands}
 use Rattle.go_type_syntax.specs.declared.tree.FieldExpr.{FieldExpr}

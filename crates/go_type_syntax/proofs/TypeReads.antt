@@ -15,7 +15,7 @@ use Rattle.go_type_syntax.specs.Types.{with_type, paren_end, paren_by, array_ite
 use Rattle.go_expr_syntax.proofs.Viable.{ReadsAt, Behind, Past, After, done_reads, refuse_next, refuse_end, cons_reads, past_reads, choose_reads, peek_reads, stuck_reads, deep_reads, bind_reads, value_reads, only_reads, starts_same, from_start_reads, told_by_reads}
 use Rattle.go_expr_syntax.proofs.Marks.{arrow, chan, close_paren, open_bracket, close_bracket, open_brace}
 use Rattle.go_expr_syntax.proofs.NameReads.{any_ident}
-use Rattle.go_type_syntax.proofs.Standing.{type_begun_by, name_stands, Begun, NamedAt, TypeAt, FieldAt, FieldsAt, ParamAt, SigAt, TermAt, ElemAt, ElemsAt, some_type, no_type_of, no_field, no_param, no_term, no_elem_here}
+use Rattle.go_type_syntax.proofs.Standing.{no_literal, type_begun_by, name_stands, Begun, NamedAt, TypeAt, FieldAt, FieldsAt, ParamAt, SigAt, TermAt, ElemAt, ElemsAt, some_type, no_type_of, no_field, no_param, no_term, no_elem_here}
 use Rattle.go_type_syntax.proofs.ParamReads.{ReadsTypes, param_reads, sig_reads}
 use Rattle.go_type_syntax.proofs.ElemReads.{ClosedElem, named_reads, name_reads, term_reads, elem_reads, elems_read}
 use Rattle.go_expr_syntax.proofs.OperandReads.{ExprAt}
@@ -95,7 +95,7 @@ chan_reads inner h at ts =
     (λ e. value_reads Sends (Behind (t.Chan at) TypeAt) inner (λ ty. (y.Chan true true ty.0 at, ty.1)) ts (λ vs ty rest w. (suc w.0, g.both_ways w.0 at vs ty.0 rest w.2 w.1)) (inner ts)
     (only_reads TypeAt Sends inner ts
     (λ k us ty rest a w. (w.0, w.1, sym (starts_same is_arrow ts (k ∷ []) a) ∙ e))
-    (λ ty us w. no_type_of w.0 ty.0 us w.1)
+    (λ ty us w. no_type_of w.0 ty.0 us w.1) no_literal
     (record { tokens = t.Ident any_ident ∷ []; made = (named (plain any_ident), 0); stands = λ tail. (1, name_stands any_ident tail, refl) })
     (inner ts) (h ts)))
 

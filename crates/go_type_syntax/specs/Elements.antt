@@ -1,9 +1,8 @@
 -- Unions and the elements of interfaces, as they are read. inner reads the types inside, where n nodes are left for
 -- them, and lower those
 -- that stand a node deeper.
-use Rattle.std.specs.Prelude.{ℕ, zero, suc, min, Bool, true, false, List, [], ◌∷◌, Ok}
+use Rattle.std.specs.Prelude.{ℕ, zero, suc, min, true, false, List, [], ◌∷◌, Ok}
 use Rattle.go_expr_syntax.specs.declared.symbols.Symbol.{Symbol}
-use Rattle.go_expr_syntax.specs.declared.symbols.Symbol.TheVariants as t
 use Rattle.go_expr_syntax.specs.declared.symbols.Ident.{Ident}
 use Rattle.go_type_syntax.specs.declared.tree.TermExpr.{TermExpr}
 use Rattle.go_type_syntax.specs.declared.tree.ElemExpr.{ElemExpr}

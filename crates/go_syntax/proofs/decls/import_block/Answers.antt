@@ -1,7 +1,7 @@
 use Rattle.std.proofs.lemmas.Result.{err_from_is_err_and}
 use Rattle.go_expr_syntax.specs.Reading.{row, is_close_paren}
 use Rattle.go_syntax.specs.Files.{import_at}
-use Rattle.go_syntax.proofs.FileReads.{import_eats}
+use Rattle.go_syntax.proofs.ImportReads.{import_eats}
 use Rattle.go_expr_syntax.proofs.Turns.{turn_closed, turn_stops, turn_last, turn_stuck, turn_more, turn_smaller}
 use Rattle.go_syntax.proofs.decls.import_block.Goals as goal
 
