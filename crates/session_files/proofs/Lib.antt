@@ -1,9 +1,9 @@
-mod Bytes
-mod OpenFiles
+pub mod Bytes
+pub mod OpenFiles
 mod Listed
-mod Standing
+pub mod Standing
 mod ComingDown
-mod Outcomes
+pub mod Outcomes
 mod OpenLemmas
 mod LoadingLemmas
 mod Ways

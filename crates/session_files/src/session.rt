@@ -1,7 +1,7 @@
 //! Sessions of files.
 
 ghost use Rattle.std.specs.Prelude.{◌≡◌, ◌≤◌, length, map, option_map, slice_get, IfOk, IfErr, IfSome, IfNone};
-ghost use Rattle.session_files.specs.Sessions.{IsUnknown, Stands, all_listed};
+ghost use Rattle.session_files.specs.Sessions.{AreSound, IsUnknown, Stands, all_listed};
 ghost use Rattle.session_files.specs.OpenSessions.{IsPlace};
 ghost use Rattle.session_files.specs.Answers.{packages};
 ghost use Rattle.session_files.specs.Loading.{word_of, AreTaken, IsRefused, IsCause};
@@ -53,6 +53,13 @@ impl Session {
         let files = take_all_in(alloc, device, sources)?;
         // What shallow files list and no file covers will be fetched here.
         Ok(Session { files })
+    }
+
+    /// What every session keeps: each file has an envelope.
+    pub fn keeps_sound_files(&self)
+        ensures { AreSound self.now }
+    {
+        let _files = &self.files;
     }
 
     /// How many files it has.

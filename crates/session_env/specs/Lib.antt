@@ -1,0 +1,2 @@
+pub mod SessionEntries
+pub mod SessionEntryLaws
