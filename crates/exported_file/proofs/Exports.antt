@@ -12,7 +12,7 @@ use Rattle.decl_spelling.specs.Spelling.{SpellsDecl}
 use Rattle.name_index.specs.FullFile.{Listed, listed}
 use Rattle.name_index.proofs.SortedLemmas.{one_number}
 use Rattle.export_order.proofs.QueueLemmas.{needed, listed as all_listed}
-use Rattle.written_types.specs.Written.{Target, decl_written}
+use Rattle.written_types.specs.Written.{Target, full, decl_written}
 use Rattle.written_types.proofs.NameLemmas.{same_names}
 use Rattle.file_layout.specs.Walk.{event_paths}
 use Rattle.file_layout.specs.Layout.{Source, events_by, events, other_paths, file_bytes}
@@ -22,7 +22,11 @@ use Rattle.file_layout.proofs.SpelledBlocks.{has_its_methods}
 use Rattle.file_layout.proofs.WholeFile.{serves}
 use Rattle.exported_file.specs.Exported.{entry_written, decl_behind, first_names, written_entries, source, export_bytes}
 use Rattle.exported_file.specs.Law.{CanBeExported, IsSpelledAt, IsExport}
+use Rattle.exported_file.specs.Small.{IsWritable}
+use Rattle.exported_file.proofs.FittingDecls.{decl_fits}
 use Rattle.exported_file.proofs.Told.{decl_told}
+use Rattle.decl_spelling.specs.Sections.{Basics}
+use Rattle.file_layout.specs.Conditions.{DeclFits}
 
 to_written : (target : Target) (entry : Option Entry) (q : QName) → Contains (entry_names entry) q → Contains (entry_names (entry_written target entry)) q
 to_written target (Some (declared decl)) q has = (same_names target decl q).1 has
@@ -33,6 +37,9 @@ from_written : (target : Target) (entry : Option Entry) (q : QName) → Contains
 from_written target (Some (declared decl)) q has = (same_names target decl q).0 has
 from_written target (Some (damaged fault read)) q has = has
 from_written target None q has = has
+
+fits_of : (target : Target) (basics : Basics) (decl : Decl) → IsWritable basics decl → DeclFits basics (decl_written target decl)
+fits_of full = decl_fits
 
 some_is : {X : Type 0} (x y : X) → Some x ≡ Some y → x ≡ y
 some_is x y e = cc
@@ -81,7 +88,7 @@ module _ (target : Target) (whole : Meant) (entries : Entries) (names : List QNa
         let found = can.decls from (needed_from from reached) in
         let decl = decl_written target found.0 in
         let refers : Contains (reference_names decl) to = subst (λ (e : Option Entry). Contains (entry_names (entry_written target e)) to) found.1 has in
-        let told = decl_told s.basics decl to (has_its_methods decl found.2.proper) refers in
+        let told = decl_told s.basics decl to (has_its_methods decl (fits_of target s.basics found.0 found.2).proper) refers in
         told_of from to.path (order_has from reached) (subst (λ (d : Option Decl). Contains (flat_map event_paths (events_by s d)) to.path) (sym (decl_is from found.0 found.1)) told)
 
     under : (q : QName) → Reached changed starts q → (q.path ≡ whole.path) ⊎ Contains (paths_told s) q.path
@@ -90,7 +97,7 @@ module _ (target : Target) (whole : Meant) (entries : Entries) (names : List QNa
 
     can_be_written : CanBeWritten s
     can_be_written = record {
-      decls = λ q has. let found = can.decls q (needed_from q (in_order_is q has)) in (decl_written target found.0, decl_is q found.0 found.1, found.2);
+      decls = λ q has. let found = can.decls q (needed_from q (in_order_is q has)) in (decl_written target found.0, decl_is q found.0 found.1, fits_of target s.basics found.0 found.2);
       under = λ q has. under q (in_order_is q has);
       paths = can.paths;
       short = can.short;

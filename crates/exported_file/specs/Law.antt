@@ -13,7 +13,7 @@ use Rattle.name_index.specs.FullFile.{FullFile, Listed, listed}
 use Rattle.name_index.specs.Envelope.{Envelope}
 use Rattle.name_index.specs.Lookup.{IsListed}
 use Rattle.written_types.specs.Written.{Target, decl_written}
-use Rattle.file_layout.specs.Conditions.{DeclFits}
+use Rattle.exported_file.specs.Small.{IsWritable}
 use Rattle.file_layout.specs.Layout.{other_paths}
 use Rattle.file_layout.specs.Law.{paths_told, the_file, sections_of, name_of}
 use Rattle.exported_file.specs.Exported.{first_names, basics, source, export_bytes}
@@ -24,13 +24,13 @@ module _ (target : Target) (whole : Meant) (entries : Entries) (names : List QNa
   abbrev pub Needed : QName → Type 0
   Needed = Reached entries (first_names whole)
 
-  -- What the export asks for: each needed name is one of the names, and has a declaration of which what is written
-  -- fits; no path that is written is empty, but the own one; and the file's length has 63 bits.
+  -- What the export asks for: each needed name is one of the names, and has a declaration that may be written; no path
+  -- that is written is empty, but the own one; and the file's length has 63 bits.
   pub record CanBeExported : Type 0 where
     pub among : (q : QName) → Needed q → Contains names q
     pub decls : (q : QName) → Needed q
         → (decl : Decl) × (entries q ≡ Some (declared decl))
-        × DeclFits (basics target whole entries names packages) (decl_written target decl)
+        × IsWritable (basics target whole entries names packages) decl
     pub paths : (path : Text) → Contains (paths_told (source target whole entries names packages)) path
         → (path ≢ []) ⊎ (path ≡ whole.path)
     pub short : length (export_bytes target whole entries names packages) < 2 ^ 63

@@ -182,7 +182,7 @@ module _ (r : Tree → Tree) where
   receivers_types : (xs : List (ReceiverOf Pos Text Tree)) → flat_map receiver_types (map (receiver_map position_written same_text r) xs) ≡ map r (flat_map receiver_types xs)
   receivers_types = parts_of_map (receiver_map position_written same_text r) r receiver_types receiver_types (λ x. ap (λ (rest : List Tree). r x.recv.type ∷ rest) (sig_types_map position_written same_text same_text r x.sig))
 
-  types_of_form : (form : Decl) → form_types (form_map position_written same_text r form) ≡ map r (form_types form)
+  pub types_of_form : (form : Decl) → form_types (form_map position_written same_text r form) ≡ map r (form_types form)
   types_of_form (function_of pos tparams sig) = ap (λ (rest : List Tree). map r tparams ++ rest) (sig_types_map position_written same_text same_text r sig) ∙ sym (map-append r tparams (sig_types sig))
   types_of_form (defined_of pos tparams underlying own) =
       ap (λ (rest : List Tree). map r tparams ++ r underlying ∷ rest) (receivers_types own) ∙ sym (map-append r tparams (underlying ∷ flat_map receiver_types own))
