@@ -16,7 +16,7 @@ use crate::exits::Status;
 use crate::printing::{write_damaged_line, write_decoded_line, write_unknown_line};
 use crate::putting::{PutFault, put_line};
 use command_words::{NameWord, NameWords};
-use decl_text::render;
+use decl_text::{Room, put_decl};
 use go_values::{Bytes, QName};
 use outside::Sink;
 use session::{Declaration, LookUpFault, Objects};
@@ -108,6 +108,13 @@ pub fn status_of(answers: &[LookedUp]) -> Status
     Status::Done
 }
 
+/// The room in which answers are made, one after the other.
+#[derive(Drop)]
+struct Page {
+    line: Vec<u8>,
+    room: Room,
+}
+
 /// Puts what the names are, each answer as one piece, and then the tally.
 pub fn put_answers<S: Sink>(
     alloc: Global,
@@ -122,9 +129,12 @@ pub fn put_answers<S: Sink>(
     ensures { PutsLines (answer_texts (answered (read_by objects.now) (names_of names.entry) answers.now)
         ++ decoded_line tally.declared tally.listed ∷ []) result (S.state out.old) (S.state out.new) }
 {
-    let mut line = Vec::new(alloc);
-    put_names(alloc, names, answers, objects, &mut line, out)?;
-    put_tally(tally, &mut line, out)
+    let mut page = Page {
+        line: Vec::new(alloc),
+        room: Room::new(alloc),
+    };
+    put_names(alloc, names, answers, objects, &mut page, out)?;
+    put_tally(tally, &mut page.line, out)
 }
 
 /// Puts how many names are declared, and how many the file lists.
@@ -138,13 +148,13 @@ fn put_tally<S: Sink>(tally: Tally, line: &mut Vec<u8>, out: &mut S) -> Result<(
     put_line(line.as_slice(), out)
 }
 
-/// Puts what the names are. The room of one line serves for all that aren't declared.
+/// Puts what the names are. One page serves for all.
 fn put_names<S: Sink>(
     alloc: Global,
     names: NameWords<'_>,
     answers: &[LookedUp],
     objects: &Objects<'_>,
-    line: &mut Vec<u8>,
+    page: &mut Page,
     out: &mut S,
 ) -> Result<(), PutFault>
     requires each { length answers.now ≡ length (names_of names) }
@@ -156,7 +166,7 @@ fn put_names<S: Sink>(
         let Some(name) = names.get(k) else {
             unreachable!();
         };
-        put_answer(alloc, &name, *answer, objects, line, out)?;
+        put_answer(alloc, &name, *answer, objects, page, out)?;
     }
     Ok(())
 }
@@ -167,17 +177,17 @@ fn put_answer<S: Sink>(
     name: &NameWord<'_>,
     answer: LookedUp,
     objects: &Objects<'_>,
-    line: &mut Vec<u8>,
+    page: &mut Page,
     out: &mut S,
 ) -> Result<(), PutFault>
     requires { IsKnown (read_by objects.now) answer }
     ensures { PutsLines (answer_text (name_of name.now) (answer_of (read_by objects.now) answer) ∷ []) result
         (S.state out.old) (S.state out.new) }
 {
-    if write_answer(alloc, name, answer, objects, line).is_err() {
+    if write_answer(alloc, name, answer, objects, page).is_err() {
         return Err(PutFault::OutOfMemory);
     }
-    put_line(line.as_slice(), out)
+    put_line(page.line.as_slice(), out)
 }
 
 /// Makes the text of an answer.
@@ -186,38 +196,47 @@ fn write_answer(
     name: &NameWord<'_>,
     answer: LookedUp,
     objects: &Objects<'_>,
-    line: &mut Vec<u8>,
+    page: &mut Page,
 ) -> Result<(), AllocError>
     requires { IsKnown (read_by objects.now) answer }
-    ensures { OnOk result (line.new.items ≡ answer_text (name_of name.now) (answer_of (read_by objects.now) answer)) }
+    ensures { OnOk result
+        (page.new.line.items ≡ answer_text (name_of name.now) (answer_of (read_by objects.now) answer)) }
 {
     let path = name.path.as_bytes();
     match answer {
-        LookedUp::Unknown => write_unknown_line(line, path, name.name.as_bytes()),
-        LookedUp::Damaged(fault) => write_damaged_line(line, path, name.name.as_bytes(), fault),
+        LookedUp::Unknown => write_unknown_line(&mut page.line, path, name.name.as_bytes()),
+        LookedUp::Damaged(fault) => {
+            write_damaged_line(&mut page.line, path, name.name.as_bytes(), fault)
+        }
         LookedUp::Declared(number) => match objects.outcome(number) {
-            Some(Ok(declaration)) => {
-                *line = render_declaration(alloc, name, declaration)?;
-                Ok(())
-            }
+            Some(Ok(declaration)) => write_declaration(alloc, name, declaration, page),
             _ => unreachable!(),
         },
     }
 }
 
-/// The text of a declaration.
-fn render_declaration(
+/// Makes the text of a declaration.
+fn write_declaration(
     alloc: Global,
     name: &NameWord<'_>,
     declaration: Declaration<'_>,
-) -> Result<Vec<u8>, AllocError>
+    page: &mut Page,
+) -> Result<(), AllocError>
     requires { IsLentInside (Ok declaration) }
-    ensures { IfOk result (λ text. text.items
+    ensures { OnOk result (page.new.line.items
         ≡ answer_text (name_of name.now) (declared_by (Some (lent_outcome (Ok declaration.entry))))) }
 {
     let q = QName {
         path: Bytes::from_slice(alloc, name.path.as_bytes())?,
         name: Bytes::from_slice(alloc, name.name.as_bytes())?,
     };
-    render(alloc, &q, declaration.node, declaration.arena)
+    page.line.clear();
+    put_decl(
+        alloc,
+        &mut page.room,
+        &mut page.line,
+        &q,
+        declaration.node,
+        declaration.arena,
+    )
 }
