@@ -2,5 +2,7 @@
 #![tactic(auto)]
 
 mod found;
+mod tasks;
 
 pub use found::{Event, Found, enter, join, mark, note};
+pub use tasks::{Task, put_element};
