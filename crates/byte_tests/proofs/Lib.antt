@@ -1,1 +1,1 @@
-mod VariableLemmas
+mod AliasLemmas

@@ -1,5 +1,5 @@
--- A package stands that declares one variable of a predeclared type and has no imports and no files.
-use Rattle.std.proofs.Common.{◌≡◌, ℕ, ◌<◌, Bool, true, false, cond, List, [], ◌∷◌, length, Some, None, sym, subst, arith}
+-- A package stands that declares one alias of a predeclared type and has no imports and no files.
+use Rattle.std.proofs.Common.{◌≡◌, ℕ, ◌<◌, Bool, true, false, cond, List, [], ◌∷◌, length, Some, None, refl, inl, sym, ap, subst, ◌∙◌, arith}
 use Rattle.std.specs.Prelude.{nat_eq}
 use Rattle.std.specs.List.{All, Contains}
 use Rattle.std.specs.Cmp.Lexicographic.{pointwise}
@@ -8,14 +8,14 @@ use Rattle.code_tables.specs.declared.predeclared.Basic.{Basic}
 use Rattle.go_values.specs.declared.positions.Pos.{Pos}
 use Rattle.type_terms.specs.declared.descriptors.Node.{Node}
 use Rattle.type_terms.specs.declared.declarations.DeclNode.{DeclNode}
-use Rattle.type_terms.specs.declared.declarations.DeclNode.TheVariants.{Var}
+use Rattle.type_terms.specs.declared.declarations.DeclNode.TheVariants.{Alias}
 use Rattle.environments.specs.declared.packages.Package.{Package}
 use Rattle.type_terms.specs.Trees.{Text, Tree, predeclared, level_of}
 use Rattle.type_terms.specs.Parts.{Within, itself, inside, parts}
 use Rattle.type_terms.specs.Arenas.{AllBelow}
 use Rattle.type_terms.specs.Denotation.{tree}
-use Rattle.type_terms.specs.Declarations.{var_of, decl_nodes}
-use Rattle.type_terms.specs.DeclarationRules.{IsProper, IsProperLevel, IsProperDecl}
+use Rattle.type_terms.specs.Declarations.{renamed_of, decl_nodes}
+use Rattle.type_terms.specs.DeclarationRules.{IsProper, IsProperLevel, IsProperDecl, IsTypeParameter}
 use Rattle.type_terms.specs.Declarations.{decl_of}
 use Rattle.environments.specs.Packages.{IsImports, IsSourceFile, package_decl, HoldsParameters, DeclsStand, PackageStands}
 
@@ -25,9 +25,9 @@ basic_level basic _ _ e (inside type part below held rest) =
     let none : Contains (parts (predeclared basic)) part = subst (λ t. Contains (parts t) part) e held in
     absurd (omega (arith, none.1))
 
-basic_var : (pos : Pos) (basic : Basic) (type : Tree) → type ≡ predeclared basic → IsProperDecl (var_of pos type)
-basic_var pos basic type e = record {
-  form = tt;
+basic_alias : (pos : Pos) (basic : Basic) (type : Tree) → type ≡ predeclared basic → IsProperDecl (renamed_of pos [] type)
+basic_alias pos basic type e = record {
+  form = (All-nil IsTypeParameter, inl refl);
   types = All-cons IsProper type [] (λ part within. basic_level basic type part e within) (All-nil IsProper);
 }
 
@@ -53,10 +53,13 @@ one_stands nodes path name decl below proper parameters = record {
   parameters = λ asked found is. subst (λ d. HoldsParameters path ((name, decl) ∷ []) asked (decl_of nodes d)) (sym (only name decl found asked is)) (parameters asked);
 }
 
-pub variable_stands : (nodes : List Node) (whole : Package) (name : Text) (pos : Pos) (type : ℕ) (basic : Basic) → whole.imports.items ≡ [] → whole.files.items ≡ [] → whole.decls.items ≡ (name, Var pos type) ∷ []
-    → type < length nodes → tree nodes type ≡ predeclared basic → PackageStands nodes whole
-variable_stands nodes whole name pos type basic imports files decls below is = record {
-  imports = subst IsImports (sym imports) no_imports;
-  files = subst (All IsSourceFile) (sym files) (All-nil IsSourceFile);
-  decls = subst (DeclsStand nodes whole.path) (sym decls) (one_stands nodes whole.path name (Var pos type) (below, tt) (basic_var pos basic (tree nodes type) is) (λ asked. tt));
-}
+pub alias_stands : (nodes : List Node) (whole : Package) (name : Text) (pos : Pos) (tparams : List ℕ) (type : ℕ) (basic : Basic) → whole.imports.items ≡ [] → whole.files.items ≡ []
+    → whole.decls.items ≡ (name, Alias pos tparams type) ∷ [] → tparams ≡ [] → type < length nodes → tree nodes type ≡ predeclared basic → PackageStands nodes whole
+alias_stands nodes whole name pos tparams type basic imports files decls no_tparams below is =
+    let own : whole.decls.items ≡ (name, Alias pos [] type) ∷ [] = decls ∙ ap (λ (ts : List ℕ). (name, Alias pos ts type) ∷ []) no_tparams in
+    record {
+      imports = subst IsImports (sym imports) no_imports;
+      files = subst (All IsSourceFile) (sym files) (All-nil IsSourceFile);
+      decls = subst (DeclsStand nodes whole.path) (sym own)
+          (one_stands nodes whole.path name (Alias pos [] type) (below, tt) (basic_alias pos basic (tree nodes type) is) (λ asked place own is. absurd cc));
+    }
