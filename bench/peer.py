@@ -90,4 +90,5 @@ def main():
     print(f"x/tools to exportdata, reading and printing: {spread([row[1][1] / row[0][1] for row in rows])}")
 
 
-main()
+if __name__ == "__main__":
+    main()
