@@ -17,6 +17,6 @@ mod token_kinds;
 mod words;
 
 pub use lexing::{SOURCE_LIMIT, one_reading, tokens};
-pub use numbers::number_literals;
+pub use numbers::{is_digits, is_led_digits, number_literals};
 pub use source_tokens::{SourceTokens, each_token, lex};
 pub use token_kinds::{LexFault, Token, TokenKind};

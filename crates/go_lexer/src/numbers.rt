@@ -147,8 +147,8 @@ fn read_exponent(base: Base, text: &str) -> Option<Exponent<'_>>
     })
 }
 
-/// Whether these are digits of a base, with single `_` between them.
-fn is_digits(radix: u32, text: &[u8]) -> bool
+/// Whether these are digits of a base, 2 to 16, with single `_` between them, and one at least.
+pub fn is_digits(radix: u32, text: &[u8]) -> bool
     requires low { 2 ≤ radix }
     requires high { radix ≤ 16 }
     ensures { result ≡ is_digits radix text.now }
@@ -170,8 +170,8 @@ fn is_digits(radix: u32, text: &[u8]) -> bool
     after_digit
 }
 
-/// The same, after one `_` or none.
-fn is_led_digits(radix: u32, text: &[u8]) -> bool
+/// The same, after one `_` or none, as they stand behind a prefix.
+pub fn is_led_digits(radix: u32, text: &[u8]) -> bool
     requires low { 2 ≤ radix }
     requires high { radix ≤ 16 }
     ensures { result ≡ is_led_digits radix text.now }

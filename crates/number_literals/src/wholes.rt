@@ -7,8 +7,9 @@ ghost use Rattle.number_literals.specs.Reading.{kept, answer, plain_of, led_of, 
 ghost use Rattle.number_literals.specs.Reading.{whole_of};
 ghost use Rattle.number_literals.specs.Wholes.{HasWhole, IsWholeFault};
 
-use crate::digits::{is_digits, is_led_digits, read};
+use crate::digits::read;
 use crate::faults::ValueFault;
+use go_lexer::{is_digits, is_led_digits};
 
 fn kept(value: Option<u128>) -> Result<u128, ValueFault>
     ensures { result ≡ kept value }
