@@ -1,1 +1,2 @@
 mod StackLemmas
+mod OpenLemmas

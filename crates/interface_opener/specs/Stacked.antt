@@ -35,3 +35,9 @@ element_at nodes id = element_of (slice_get nodes id) id
 -- what the elements of a holder leave to be done
 abbrev pub elements_left : List Node → ℕ → List ℕ → List (Item ℕ QName)
 elements_left nodes holder ids = flat_map (λ id. element_items by_number holder (element_at nodes id)) ids
+
+-- the names of the defined types whose end is still to come, those that were opened first before others
+abbrev pub closings : List Task → List QName
+closings [] = []
+closings (Closes q ∷ rest) = q ∷ closings rest
+closings (_ ∷ rest) = closings rest

@@ -2,7 +2,9 @@
 #![tactic(auto)]
 
 mod found;
+mod open_names;
 mod tasks;
 
 pub use found::{Event, Found, enter, join, mark, note};
-pub use tasks::{Task, put_element};
+pub use open_names::{begin, end, is_open};
+pub use tasks::{Task, put_element, put_inside};
