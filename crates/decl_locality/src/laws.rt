@@ -1,6 +1,6 @@
 //! Laws of the readers of declarations, each the contract of a function that does nothing.
 
-ghost use Rattle.std.specs.Prelude.{◌≡◌, ◌+◌, ◌≤◌, ℕ, List, length, false, Ok};
+ghost use Rattle.std.specs.Prelude.{◌≡◌, ◌+◌, ℕ, List, length, false, Ok};
 ghost use Rattle.wire_bytes.specs.declared.fault.ByteFault.{ByteFault};
 ghost use Rattle.wire_bytes.specs.declared.fault.ByteFault.TheVariants.{Ended};
 ghost use Rattle.wire_bytes.specs.Local.{is_ended, AreBytes, IsAmong};
@@ -38,7 +38,7 @@ pub fn declarations_are_local()
         → IsAmong src.body_at (src.body_at + length src.body) fault }
     ensures end { (src : Sections) (basics : Basics) (offset at : ℕ) → FirstFault src basics offset (Ended at)
         → at ≡ src.body_at + length src.body }
-    ensures goes_on { (src : Sections) (basics : Basics) (offset at : ℕ) → offset ≤ length src.body
-        → FirstFault src basics offset (Ended at) → (more : List ℕ) × AreBytes more
+    ensures goes_on { (src : Sections) (basics : Basics) (offset at : ℕ) → FirstFault src basics offset (Ended at)
+        → (more : List ℕ) × AreBytes more
         × ((at : ℕ) → FirstFault (with_behind src more) basics offset (Ended at) → ⊥) }
 {}
