@@ -9,7 +9,8 @@ use Rattle.go_expr_syntax.specs.declared.faults.Fault.{Fault}
 use Rattle.go_expr_syntax.specs.declared.faults.Fault.TheVariants.{Call}
 use Rattle.go_expr_syntax.specs.declared.tree.NameExpr.{NameExpr}
 use Rattle.go_expr_syntax.specs.declared.expressions.Operand.{Operand}
-use Rattle.go_expr_syntax.specs.Reading.{Reply, start_of, from_start, ◌>>=◌, unexpected, too_deep, past, peek, is_close_paren}
+use Rattle.go_expr_syntax.specs.Reading.{Reply, start_of, from_start, ◌>>=◌, unexpected, too_deep, past, peek}
+use Rattle.go_expr_syntax.specs.Reading.{is_close_paren}
 use Rattle.go_expr_syntax.specs.Names.{dotted}
 use Rattle.go_expr_syntax.specs.Expressions.{level, is_unary, between_of, literal, constant, conversion, enclosed}
 use Rattle.go_expr_syntax.specs.Expressions.{unary}

@@ -45,7 +45,7 @@ within_by src tokens (Err (stopped.At f)) h = tt
 
 told : (src : List ℕ) (tokens : List Token) (f : Fault) → Explains MAX_DEPTH (symbols_of src tokens) f → Tells src tokens (fault_of src tokens f)
 told src tokens (stop.Unexpected left) h = (left, refl, h)
-told src tokens (stop.Deep left at) h = (left, h)
+told src tokens (stop.Deep left at) h = (left, h.0, h.1)
 told src tokens (stop.DotImport left) h = (left, refl, h)
 told src tokens (stop.Call left at) h = (left, h)
 

@@ -39,7 +39,7 @@ module _ (ts : List Symbol) (never : (f : SourceFile) → IsFile ts f → ⊥) w
         m,
         omega arith,
         λ other at d.
-            let g : IsTooDeep m ts other = explains m (omega arith) ts (Deep other at) d in
+            let g : IsTooDeep m ts other = (explains m (omega arith) ts (Deep other at) d).0 in
             below other (nat_le k other) refl (λ le. later_at ts n k other h m g goes.2.0 goes.1 goes.0 us j same goes.2.1 (omega arith) le),
       )
     where
@@ -53,7 +53,7 @@ module _ (ts : List Symbol) (never : (f : SourceFile) → IsFile ts f → ⊥) w
   found_or size n two small next (Err (DotImport k)) e = (k, as_unexpected IsFileWithDots ts k (explains n two ts (DotImport k) e))
   found_or size n two small next (Err (Call k at)) e = (k, as_unexpected (IsFileWithCall at) ts k (explains n two ts (Call k at) e))
   found_or size n two small next (Err (Deep k began)) e =
-      let h : IsTooDeep n ts k = explains n two ts (Deep k began) e in
+      let h : IsTooDeep n ts k = (explains n two ts (Deep k began) e).0 in
       let o = earlier n two k began e h.rest h refl h.goes in
       next o.0 o.1 k (small k began e) o.2
 
@@ -63,7 +63,7 @@ module _ (ts : List Symbol) (never : (f : SourceFile) → IsFile ts f → ⊥) w
 
   few : (n : ℕ) → 2 ≤ n → Small (suc (length ts)) n
   few n two k began e =
-      let h : IsTooDeep n ts k = explains n two ts (Deep k began) e in
+      let h : IsTooDeep n ts k = (explains n two ts (Deep k began) e).0 in
       let long : length ts ≡ length h.front + length h.rest = ap length h.split ∙ length-append {A = Symbol} h.front h.rest in
       let place : k ≡ length h.rest = h.place in
       omega (arith, long, place)

@@ -14,6 +14,7 @@ use Rattle.go_expr_syntax.proofs.Viable.{Meets, ReadOk, ReadNotOn, ReadsBy, ahea
 use Rattle.go_syntax.proofs.ImportReads.{Wide}
 use Rattle.go_syntax.proofs.FileReads.{FileAt, WideFile, file_reads}
 use Rattle.go_syntax.proofs.FileAgain.{file_again}
+use Rattle.go_syntax.proofs.DeepParts.{deep_part}
 use Rattle.go_expr_syntax.proofs.Agreeing.{Agrees}
 
 again : (n m : ℕ) → 2 ≤ n → (ts : List Symbol) (f : SourceFile) → IsFileOf m ts f [] → Agrees n m f [] (file_front n ts)
@@ -152,22 +153,35 @@ left_at n two ts g k us h = record {
     stop_left [] f m e w = absurd cc
     stop_left (j ∷ r) f m e w = clash_rest n m f g j r (file_front n (h.front ++ j ∷ r)) (h.stays (j ∷ r) e) (again n m two (h.front ++ j ∷ r) f w)
 
-explains_not : (n : ℕ) → 2 ≤ n → (ts : List Symbol) (f : Fault) → ReadNotOn FileAt (Wide FileAt WideFile) (file_front n) ts f → Explains n ts f
+-- what each fault says, but for the place of a path that is too long
+abbrev Told : ℕ → List Symbol → Fault → Type 0
+Told n ts (Unexpected k) = IsUnexpected ts k
+Told n ts (Deep k began) = IsTooDeep n ts k
+Told n ts (DotImport k) = IsLeftOut IsFileWithDots ts k
+Told n ts (Call k at) = IsLeftOut (IsFileWithCall at) ts k
+
+explains_not : (n : ℕ) → 2 ≤ n → (ts : List Symbol) (f : Fault) → ReadNotOn FileAt (Wide FileAt WideFile) (file_front n) ts f → Told n ts f
 explains_not n two ts (Unexpected k) h = unexpected_at n two ts k h
 explains_not n two ts (Deep k began) h = deep_at n two ts k began h
 explains_not n two ts (DotImport k) h = dot_at n two ts k h
 explains_not n two ts (Call k at) h = call_at n two ts k at h
 
-explains_ok : (n : ℕ) → 2 ≤ n → (ts : List Symbol) (f : Fault) (g : SourceFile) (rest : List Symbol) → ReadOk FileAt (file_front n) ts g rest → at_end g rest ≡ Err f → Explains n ts f
+explains_ok : (n : ℕ) → 2 ≤ n → (ts : List Symbol) (f : Fault) (g : SourceFile) (rest : List Symbol) → ReadOk FileAt (file_front n) ts g rest → at_end g rest ≡ Err f → Told n ts f
 explains_ok n two ts f g [] h e = absurd cc
-explains_ok n two ts f g (k ∷ us) h e = let same : Unexpected (length (k ∷ us)) ≡ f = cc in subst (Explains n ts) same (left_at n two ts g k us h)
+explains_ok n two ts f g (k ∷ us) h e = let same : Unexpected (length (k ∷ us)) ≡ f = cc in subst (Told n ts) same (left_at n two ts g k us h)
+
+told : (n : ℕ) → 2 ≤ n → (ts : List Symbol) (f : Fault) → file_at n ts ≡ Err f → Told n ts f
+told n two ts f e = go (file_front n ts) (file_reads n two ts) e
+  where
+    go : (r : Reply SourceFile) → ReadsBy FileAt (Wide FileAt WideFile) (file_front n) ts r → ended r ≡ Err f → Told n ts f
+    go (Ok z) h e = explains_ok n two ts f z.0 z.1 h e
+    go (Err g) h e = let same : g ≡ f = cc in subst (Told n ts) same (explains_not n two ts g h)
 
 pub explains : (n : ℕ) → 2 ≤ n → (ts : List Symbol) (f : Fault) → file_at n ts ≡ Err f → Explains n ts f
-explains n two ts f e = go (file_front n ts) (file_reads n two ts) e
-  where
-    go : (r : Reply SourceFile) → ReadsBy FileAt (Wide FileAt WideFile) (file_front n) ts r → ended r ≡ Err f → Explains n ts f
-    go (Ok z) h e = explains_ok n two ts f z.0 z.1 h e
-    go (Err g) h e = let same : g ≡ f = cc in subst (Explains n ts) same (explains_not n two ts g h)
+explains n two ts (Unexpected k) e = told n two ts (Unexpected k) e
+explains n two ts (Deep k began) e = (told n two ts (Deep k began) e, deep_part n two ts k began e)
+explains n two ts (DotImport k) e = told n two ts (DotImport k) e
+explains n two ts (Call k at) e = told n two ts (Call k at) e
 
 pub as_unexpected : (G : List Symbol → SourceFile → Type 0) (ts : List Symbol) (left : ℕ) → IsLeftOut G ts left → IsUnexpected ts left
 as_unexpected G ts left h = record { front = h.front; rest = h.rest; split = h.split; place = h.place; begins = h.begins; ends = h.ends }

@@ -20,3 +20,5 @@ pub mod FuncTurns
 pub mod GenericTurns
 pub mod StandingFileLaws
 pub mod FirstPlace
+pub mod DepthPlaces
+pub mod DeepParts

@@ -7,7 +7,8 @@ use Rattle.go_syntax.specs.declared.tree.Receiver.{Receiver}
 use Rattle.go_syntax.specs.declared.tree.FuncDecl.{FuncDecl}
 use Rattle.go_type_syntax.specs.declared.tree.SigExpr.{SigExpr}
 use Rattle.go_syntax.specs.declared.tree.TParam.{TParam}
-use Rattle.go_expr_syntax.specs.Reading.{Reply, ◌>>=◌, unexpected, past, choose, starts, is_comma, is_close_paren, is_open_paren}
+use Rattle.go_expr_syntax.specs.Reading.{Reply, ◌>>=◌, unexpected, past, choose, starts, is_comma, is_close_paren}
+use Rattle.go_expr_syntax.specs.Reading.{is_open_paren}
 use Rattle.go_expr_syntax.specs.Reading.{is_open_bracket, is_close_bracket, is_open_brace, is_close_brace, is_star}
 use Rattle.go_expr_syntax.specs.Reading.{ListForm, series_item, series}
 use Rattle.go_expr_syntax.specs.Names.{ident_at, ident_or}

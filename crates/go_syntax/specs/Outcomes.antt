@@ -4,7 +4,10 @@ use Rattle.go_expr_syntax.specs.declared.symbols.Symbol.{Symbol}
 use Rattle.go_syntax.specs.declared.tree.SourceFile.{SourceFile}
 use Rattle.go_expr_syntax.specs.declared.faults.Fault.{Fault}
 use Rattle.go_expr_syntax.specs.declared.faults.Fault.TheVariants.{Unexpected, Deep, DotImport, Call}
+use Rattle.go_expr_syntax.specs.Reading.{start_of}
 use Rattle.go_expr_syntax.specs.Calls.{Called}
+use Rattle.go_expr_syntax.specs.Expressions.{IsExpr}
+use Rattle.go_type_syntax.specs.Grammar.{IsType, IsUnion}
 use Rattle.go_syntax.specs.Decls.{IsAnyImport, IsFileWith, IsFileOf}
 
 -- all of the tokens are this file, whose paths have any number of nodes
@@ -48,6 +51,30 @@ pub record IsTooDeep (n : ℕ) (ts : List Symbol) (left : ℕ) : Type 0 where
   pub goes : GoesOnTo IsFile front rest
   pub deeper : Deepens n front rest
 
+-- ---- the place of a path that is too long
+
+-- With the next token what begins at this place has a path of more than n nodes: each of F that goes on so, and some of
+-- it does.
+pub record IsDeepFrom {X : Type 0} (F : ℕ → List Symbol → X → List Symbol → Type 0) (n : ℕ) (ts : List Symbol)
+    (left at : ℕ) : Type 0 where
+  pub front : List Symbol
+  pub next : Symbol
+  pub rest : List Symbol
+  pub split : ts ≡ front ++ next ∷ rest
+  pub place : left ≡ length (next ∷ rest)
+  pub starts : at ≡ start_of ts
+  pub goes : (more : List Symbol) × (x : X) × (m : ℕ) × F m (front ++ next ∷ more) x []
+  pub deeper : (more : List Symbol) (x : X) (m : ℕ) → F m (front ++ next ∷ more) x [] → n < m
+
+-- It is in a type, a constraint or an expression whose first token stands at this place.
+pub data IsDeepPart (n : ℕ) (ts : List Symbol) (left at : ℕ) : Type 0 where
+  in_type : (before part : List Symbol) → ts ≡ before ++ part → IsDeepFrom IsType n part left at
+      → IsDeepPart n ts left at
+  in_constraint : (before part : List Symbol) → ts ≡ before ++ part → IsDeepFrom IsUnion n part left at
+      → IsDeepPart n ts left at
+  in_expression : (before part : List Symbol) → ts ≡ before ++ part → IsDeepFrom (IsExpr 5) n part left at
+      → IsDeepPart n ts left at
+
 -- ---- what is left out
 
 -- all of the tokens are a file in which an import may be of all the names of a package
@@ -71,6 +98,6 @@ pub record IsLeftOut (G : List Symbol → SourceFile → Type 0) (ts : List Symb
 -- what each fault says of the tokens, where n nodes are allowed
 abbrev pub Explains : ℕ → List Symbol → Fault → Type 0
 Explains n ts (Unexpected left) = IsUnexpected ts left
-Explains n ts (Deep left at) = IsTooDeep n ts left
+Explains n ts (Deep left at) = IsTooDeep n ts left × IsDeepPart n ts left at
 Explains n ts (DotImport left) = IsLeftOut IsFileWithDots ts left
 Explains n ts (Call left at) = IsLeftOut (IsFileWithCall at) ts left

@@ -12,7 +12,7 @@ use Rattle.go_syntax.specs.declared.parsing.LeftOutKind.{LeftOutKind}
 use Rattle.go_syntax.specs.declared.parsing.LeftOutKind.TheVariants as what
 use Rattle.go_syntax.specs.declared.parsing.SyntaxFault.{SyntaxFault}
 use Rattle.go_syntax.specs.declared.parsing.SyntaxFault.TheVariants as fault
-use Rattle.go_syntax.specs.Outcomes.{IsUnexpected, IsTooDeep, IsLeftOut, IsFileWithDots, IsFileWithCall}
+use Rattle.go_syntax.specs.Outcomes.{IsUnexpected, IsTooDeep, IsDeepPart, IsLeftOut, IsFileWithDots, IsFileWithCall}
 use Rattle.go_expr_syntax.specs.TokenView.{symbols_of, place_of}
 use Rattle.go_syntax.specs.Files.{file_at}
 use Rattle.go_syntax.specs.declared.parsing.TheConstants.{MAX_DEPTH}
@@ -47,7 +47,9 @@ answer_of src tokens (Err stopped.OutOfMemory) = Err fault.OutOfMemory
 answer_of src tokens (Err (stopped.At f)) = Err (fault_of src tokens f)
 
 abbrev pub TellsOut : List ℕ → List Token → ℕ → LeftOutKind → Type 0
-TellsOut src tokens at what.Depth = (left : ℕ) × IsTooDeep MAX_DEPTH (symbols_of src tokens) left
+TellsOut src tokens at what.Depth =
+    (left : ℕ) × IsTooDeep MAX_DEPTH (symbols_of src tokens) left
+    × IsDeepPart MAX_DEPTH (symbols_of src tokens) left at
 TellsOut src tokens at what.Call = (left : ℕ) × IsLeftOut (IsFileWithCall at) (symbols_of src tokens) left
 TellsOut src tokens at what.DotImport =
     (left : ℕ) × (at ≡ place_of src tokens left) × IsLeftOut IsFileWithDots (symbols_of src tokens) left

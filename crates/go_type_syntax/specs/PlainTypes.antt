@@ -10,8 +10,10 @@ use Rattle.go_type_syntax.specs.declared.tree.SigExpr.{SigExpr}
 use Rattle.go_type_syntax.specs.declared.tree.TermExpr.{TermExpr}
 use Rattle.go_type_syntax.specs.declared.tree.ElemExpr.{ElemExpr}
 use Rattle.go_type_syntax.specs.declared.tree.TypeExpr.{TypeExpr}
-use Rattle.go_type_syntax.specs.declared.tree.ElemExpr.TheOpen.{ElemExpr-F, TypeExpr-F, FieldExpr-F, ParamExpr-F, SigExpr-F, TermExpr-F}
-use Rattle.go_type_syntax.specs.declared.tree.ElemExpr.TheFolds.{fold-ElemExpr, fold-TypeExpr, fold-FieldExpr, fold-ParamExpr, fold-SigExpr, fold-TermExpr}
+use Rattle.go_type_syntax.specs.declared.tree.ElemExpr.TheOpen.{ElemExpr-F, TypeExpr-F, FieldExpr-F, ParamExpr-F}
+use Rattle.go_type_syntax.specs.declared.tree.ElemExpr.TheOpen.{SigExpr-F, TermExpr-F}
+use Rattle.go_type_syntax.specs.declared.tree.ElemExpr.TheFolds.{fold-ElemExpr, fold-TypeExpr, fold-FieldExpr}
+use Rattle.go_type_syntax.specs.declared.tree.ElemExpr.TheFolds.{fold-ParamExpr, fold-SigExpr, fold-TermExpr}
 
 mutual
   pub data PlainType (W L : Type 0) : Type 0 where

@@ -7,7 +7,8 @@ use Rattle.go_type_syntax.specs.PlainTypes.{PlainType, named, paren, pointer, sl
 use Rattle.go_type_syntax.specs.PlainTypes.{interface, union, PlainTypes, no_type, and_type, PlainSig, signature}
 use Rattle.go_type_syntax.specs.PlainTypes.{PlainParams, no_param, and_param, PlainParam, sharing, PlainFields}
 use Rattle.go_type_syntax.specs.PlainTypes.{no_field, and_field, PlainField, having, PlainElems, no_elem, and_elem}
-use Rattle.go_type_syntax.specs.PlainTypes.{PlainElem, method, embedded, PlainTerms, no_term, and_term, PlainTerm, of_type}
+use Rattle.go_type_syntax.specs.PlainTypes.{PlainElem, method, embedded, PlainTerms, no_term, and_term, PlainTerm}
+use Rattle.go_type_syntax.specs.PlainTypes.{of_type}
 
 -- a type that may be embedded: the name of one with its arguments, or a pointer to that
 abbrev pub is_named : {W L : Type 0} → PlainType W L → Bool
