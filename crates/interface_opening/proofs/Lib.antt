@@ -3,3 +3,4 @@ pub mod OpenedLaws
 pub mod RoomLemmas
 pub mod MeetingLemmas
 pub mod ExitLemmas
+pub mod MappedLemmas

@@ -3,3 +3,4 @@ pub mod Opening
 pub mod Having
 pub mod Terms
 pub mod Meeting
+pub mod Mapped

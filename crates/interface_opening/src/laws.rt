@@ -1,10 +1,11 @@
 //! What comes of opening interfaces, whatever stands for types.
 
 ghost use Rattle.std.specs.Prelude.{◌≡◌, ◌≢◌, ◌≤◌, ℕ, suc, List, [], ◌∷◌, ◌++◌, length, Bool, true, Result, Ok, Err};
-ghost use Rattle.std.specs.List.{All, AllPairs, list_any};
-ghost use Rattle.interface_opening.specs.Elements.{Term, Interface, Opened};
+ghost use Rattle.std.specs.List.{All, AllByRecursion, AllPairs, list_any};
+ghost use Rattle.interface_opening.specs.Elements.{Term, Interface, Event, Opened};
 ghost use Rattle.interface_opening.specs.Opening.{Item, goes, stops, opens, step, joining, inside, opened_with};
-ghost use Rattle.interface_opening.specs.Opening.{opening, none_opened};
+ghost use Rattle.interface_opening.specs.Opening.{noting, marking, opening, none_opened};
+ghost use Rattle.interface_opening.specs.Mapped.{event_mapped, opened_mapped, AgreeOn};
 ghost use Rattle.interface_opening.specs.Having.{HasAll};
 ghost use Rattle.interface_opening.specs.Terms.{meet_lists};
 ghost use Rattle.interface_opening.specs.Meeting.{IsMeeting};
@@ -82,4 +83,15 @@ pub fn an_item_at_a_time<O: Openable>()
     ensures full { (item : Item O.Ty O.Name) (rest : List (Item O.Ty O.Name)) (s t : Opened O.Ty O.Method)
         (x : O.Ty) (it : Interface O.Ty O.Name O.Method) → step O.looks item rest s ≡ opens x it t
         → opening O.looks 0 (item ∷ rest) s ≡ Err O.looks.too_many }
+{}
+
+/// What becomes known of numbers becomes known of the types that they stand for, where those that are known are told
+/// apart alike: that something comes to an element, and that an interface is marked.
+pub fn what_is_known_by_number<N: Openable, O: Openable>()
+    ensures noting { (d : N.Ty → O.Ty) (m : N.Method → O.Method) (event : Event N.Ty) (s : Opened N.Ty N.Method)
+        → noting O.looks (event_mapped d event) (opened_mapped d m s) ≡ opened_mapped d m (noting N.looks event s) }
+    ensures marking { (d : N.Ty → O.Ty) (m : N.Method → O.Method) (known : N.Ty → Bool)
+        → AgreeOn (λ a. known a ≡ true) d N.looks O.looks → (x : N.Ty) (s : Opened N.Ty N.Method)
+        → AllByRecursion (λ a. known a ≡ true) s.marked → known x ≡ true
+        → marking O.looks (d x) (opened_mapped d m s) ≡ opened_mapped d m (marking N.looks x s) }
 {}

@@ -6,4 +6,5 @@ mod laws;
 
 pub use laws::{
     Openable, an_item_at_a_time, each_opened_once, more_room, of_the_opened, terms_in_common,
+    what_is_known_by_number,
 };
