@@ -2,7 +2,6 @@
 use Rattle.std.proofs.Common.{◌≡◌, ℕ, Bool, true, false, List, [], ◌∷◌, length, Option, Some, None, Result, Ok, Err, refl, sym, ap, arith}
 use Rattle.std.specs.Prelude.{nat_lt}
 use Rattle.std.proofs.lemmas.List.{append-nil}
-use Rattle.go_values.specs.declared.positions.Pos.{Pos}
 use Rattle.wire_bytes.specs.declared.fault.ByteFault.{ByteFault}
 use Rattle.wire_bytes.specs.declared.fault.ByteFault.TheVariants as faults
 use Rattle.wire_bytes.specs.Reading.{Spot, place, ◌>>=◌, or_fault}
@@ -12,7 +11,7 @@ use Rattle.wire_bytes.specs.Varint.{flag_at}
 use Rattle.wire_bytes.specs.Local.{IsLocal as IsLocalReading}
 use Rattle.wire_bytes.proofs.LocalLemmas.{StandsAt, TakesSome as TakesSomeBytes, after_step, then_from as reading_from, from_or, from_done}
 use Rattle.wire_bytes.proofs.NumbersLocal.{uvarint_local, uvarint_some, flag_local}
-use Rattle.position_codec.specs.Place.{Named, pos_of, moved_on}
+use Rattle.position_codec.specs.Place.{Named, moved_on}
 use Rattle.position_codec.specs.Position.{position_at}
 use Rattle.position_codec.proofs.LocalLemmas.{position_local}
 use Rattle.file_parts.specs.Paths.{path_in}
@@ -20,7 +19,8 @@ use Rattle.decl_spelling.specs.declared.mention.Mention.{Mention}
 use Rattle.decl_spelling.specs.declared.mention.Demand.{Demand}
 use Rattle.decl_spelling.specs.declared.mention.Demand.TheVariants.{Interface}
 use Rattle.decl_spelling.specs.Sections.{Sections}
-use Rattle.decl_spelling.specs.Reading.{Ahead, Reader, Stopped, ask, or_stop, onto, plain, number_at, truth_at, text_at, path_at, placed, pos_at, mentioned, type_at, times, list_at, some_at}
+use Rattle.decl_spelling.specs.Spelled.{SpelledText, SpelledPath, SpelledPos, SpelledType, without_pos}
+use Rattle.decl_spelling.specs.Reading.{pos_after, Ahead, Reader, Stopped, ask, or_stop, onto, plain, number_at, truth_at, text_at, path_at, placed, pos_at, mentioned, type_at, times, list_at, some_at}
 use Rattle.decl_locality.specs.LocalReaders.{IsAskedAmong, IsSteady, IsLocal}
 use Rattle.decl_locality.proofs.SteadyLemmas.{read_is}
 use Rattle.decl_locality.proofs.LiftLemmas.{lifted_of, lifted, lifted_steady, lifted_inside}
@@ -131,11 +131,17 @@ range_at start n = faults.Range start n
 
 pub text_local : (src : Sections) → IsLocal (text_at src)
 unfolding text_at
-text_local src = judged_then uvarint_at range_at (λ start n. (refl, refl)) uvarint_local uvarint_some (text_in src.strings) (λ n text a. Ok (text, a)) (λ n text. done_local text)
+text_local src = judged_then uvarint_at range_at (λ start n. (refl, refl)) uvarint_local uvarint_some (text_in src.strings) (λ n text a. Ok (at_offset n text, a)) (λ n text. done_local (at_offset n text))
+  where
+    at_offset : ℕ → List ℕ → SpelledText
+    at_offset n text = record { offset = Some n; text = text }
 
 pub path_local : (src : Sections) → IsLocal (path_at src)
 unfolding path_at
-path_local src = judged_then uvarint_at range_at (λ start n. (refl, refl)) uvarint_local uvarint_some (path_in src.strings src.own src.paths) (λ n path a. Ok (path, a)) (λ n path. done_local path)
+path_local src = judged_then uvarint_at range_at (λ start n. (refl, refl)) uvarint_local uvarint_some (path_in src.strings src.own src.paths) (λ n path a. Ok (at_offset n path, a)) (λ n path. done_local (at_offset n path))
+  where
+    at_offset : ℕ → List ℕ → SpelledPath
+    at_offset n path = record { offset = Some n; path = path }
 
 -- ---- positions
 
@@ -143,11 +149,11 @@ module _ (src : Sections) where
   abbrev reads_position : Named → Spot → Result (Named × Spot) ByteFault
   reads_position before s = position_at src.strings before.place s
 
-  abbrev its_pos : Named → Named → Pos
-  its_pos before x = pos_of x.place
+  abbrev its_pos : Named → Named → SpelledPos
+  its_pos before x = pos_after before x
 
   placed_is : (a : Ahead) (r : Result (Named × Spot) ByteFault) → lifted_of reads_position its_pos moved_on names_none a r ≡ placed a r
-  placed_is a (Ok r) = ap (λ (ms : List Mention). Ok (pos_of (r.0).place, record { spot = r.1; before = moved_on a.before r.0; mentions = ms })) (append-nil a.mentions)
+  placed_is a (Ok r) = ap (λ (ms : List Mention). Ok (pos_after a.before r.0, record { spot = r.1; before = moved_on a.before r.0; mentions = ms })) (append-nil a.mentions)
   placed_is a (Err f) = refl
 
   pub pos_local : IsLocal (pos_at src)
@@ -160,24 +166,27 @@ module _ (src : Sections) where
 
 -- ---- types
 
+abbrev its_type : Named → ℕ → SpelledType
+its_type before x = without_pos x
+
 module _ (asked : Demand) where
   abbrev names_one : ℕ → ℕ → List Mention
   names_one at x = record { at = at; value = x; asked = asked } ∷ []
 
-  type_is : (a : Ahead) (r : Result (ℕ × Spot) ByteFault) → lifted_of (one_way uvarint_at) itself same_place names_one a r ≡ (plain a r >>= λ n. Ok (n.0, mentioned asked a n))
+  type_is : (a : Ahead) (r : Result (ℕ × Spot) ByteFault) → lifted_of (one_way uvarint_at) its_type same_place names_one a r ≡ (plain a r >>= λ n. Ok (without_pos n.0, mentioned asked a n))
   type_is a (Ok r) = refl
   type_is a (Err f) = refl
 
-  type_steady : IsSteady (lifted (one_way uvarint_at) itself same_place names_one)
-  type_steady = lifted_steady (one_way uvarint_at) itself same_place names_one (λ before. uvarint_local.steady)
+  type_steady : IsSteady (lifted (one_way uvarint_at) its_type same_place names_one)
+  type_steady = lifted_steady (one_way uvarint_at) its_type same_place names_one (λ before. uvarint_local.steady)
 
   pub type_local : ((from end : ℕ) → IsAskedAmong from end asked) → IsLocal (type_at asked)
   unfolding type_at
   type_local unplaced =
-      same_local (lifted (one_way uvarint_at) itself same_place names_one) (type_at asked) (λ a. type_is a (uvarint_at a.spot))
+      same_local (lifted (one_way uvarint_at) its_type same_place names_one) (type_at asked) (λ a. type_is a (uvarint_at a.spot))
       (record {
         steady = type_steady;
-        inside = λ a fits. lifted_inside (one_way uvarint_at) itself same_place names_one (place a.spot) (λ before. uvarint_local) a fits (omega arith)
+        inside = λ a fits. lifted_inside (one_way uvarint_at) its_type same_place names_one (place a.spot) (λ before. uvarint_local) a fits (omega arith)
             (λ x s is. ((omega arith, omega (arith, uvarint_some a.spot s x is, fits), unplaced (place a.spot) a.spot.end), tt));
       })
 
@@ -185,10 +194,10 @@ module _ (asked : Demand) where
 pub constraint_from : (start : ℕ) → IsLocalFrom start (type_at (Interface start))
 unfolding type_at
 constraint_from start =
-    same_from start (lifted (one_way uvarint_at) itself same_place (names_one (Interface start))) (type_at (Interface start)) (λ a. type_is (Interface start) a (uvarint_at a.spot))
+    same_from start (lifted (one_way uvarint_at) its_type same_place (names_one (Interface start))) (type_at (Interface start)) (λ a. type_is (Interface start) a (uvarint_at a.spot))
     (record {
       steady = type_steady (Interface start);
-      inside = λ a fits le lt. lifted_inside (one_way uvarint_at) itself same_place (names_one (Interface start)) start (λ before. uvarint_local) a fits le
+      inside = λ a fits le lt. lifted_inside (one_way uvarint_at) its_type same_place (names_one (Interface start)) start (λ before. uvarint_local) a fits le
           (λ x s is. ((le, omega (arith, uvarint_some a.spot s x is, fits), (omega arith, lt)), tt));
     })
 

@@ -5,13 +5,11 @@ use Rattle.std.proofs.lemmas.List.{take_all, take-append-le, drop-append-le}
 use Rattle.wire_bytes.specs.declared.fault.ByteFault.{ByteFault}
 use Rattle.wire_bytes.specs.Reading.{◌>>=◌}
 use Rattle.wire_bytes.specs.Local.{with_more}
-use Rattle.type_terms.specs.Shapes.{retype}
-use Rattle.type_terms.specs.Trees.{tree_of}
 use Rattle.decl_spelling.specs.declared.mention.Mention.{Mention}
 use Rattle.decl_spelling.specs.Sections.{Sections, window}
 use Rattle.decl_spelling.specs.Reading.{Ahead, Stopped, start}
 use Rattle.decl_spelling.specs.Descriptors.{Flat, flat_at}
-use Rattle.decl_spelling.specs.Tables.{Table, free_to, with_block, type_named}
+use Rattle.decl_spelling.specs.Tables.{Table, free_to, with_block, tree_spelled}
 use Rattle.decl_spelling.specs.Descent.{ReadsBlock, resolve_all, finish, block_at, offset_of}
 use Rattle.decl_spelling.proofs.Bounds.{resolve_all_same}
 use Rattle.decl_locality.specs.LocalReaders.{longer}
@@ -64,7 +62,7 @@ module _ (src : Sections) (more : List ℕ) where
   finish_stays : (p q : ReadsBlock) (offset : ℕ) → ((inner : ℕ) (done : Table) → inner < offset → p inner offset done ≡ q inner offset done)
       → (x : Result (Flat × Ahead) Stopped) (done : Table) → finish (with_behind src more) p offset x done ≡ finish src q offset x done
   finish_stays p q offset agree (Ok x) done =
-      ap (λ (r : Result Table ByteFault). r >>= λ known. Ok (with_block known offset (record { end = offset_of src x.1; tree = tree_of (retype (type_named src.version known) x.0) })))
+      ap (λ (r : Result Table ByteFault). r >>= λ known. Ok (with_block known offset (record { end = offset_of src x.1; tree = tree_spelled src.version known x.0 })))
       (resolve_all_same src p q offset agree (x.1).mentions done)
   finish_stays p q offset agree (Err stopped) done =
       ap (λ (r : Result Table ByteFault). r >>= λ known. Err stopped.fault) (resolve_all_same src p q offset agree stopped.mentions done)

@@ -6,7 +6,6 @@ use Rattle.std.proofs.lemmas.Bool.{ltb-true}
 use Rattle.code_tables.specs.declared.declarations.DeclTag.{DeclTag}
 use Rattle.code_tables.specs.declared.declarations.DeclTag.TheVariants.{Var, Func, GenericFunc, Const as ConstTag, Defined, GenericDefined, Alias, GenericAlias, TypeParameter}
 use Rattle.code_tables.specs.declared.predeclared.Basic.{Basic}
-use Rattle.go_values.specs.declared.constants.Const.{Const}
 use Rattle.wire_bytes.specs.declared.fault.ByteFault.{ByteFault}
 use Rattle.wire_bytes.specs.declared.fault.ByteFault.TheVariants as faults
 use Rattle.wire_bytes.specs.Reading.{Spot, place, ◌>>=◌, demand, byte_at}
@@ -14,17 +13,16 @@ use Rattle.wire_bytes.specs.Local.{IsAhead, place_of_fault, is_ended, IsAmong}
 use Rattle.wire_bytes.proofs.LocalLemmas.{ahead_fits, ahead_place, bind_err, fault_is, demand_fault}
 use Rattle.wire_bytes.proofs.NumbersLocal.{byte_local}
 use Rattle.wire_bytes.proofs.Steps.{bind_ok, done_is}
-use Rattle.type_terms.specs.Shapes.{retype}
-use Rattle.type_terms.specs.Trees.{tree_of}
 use Rattle.type_terms.specs.Declarations.{var_of, function_of, constant_of, renamed_of, type_parameter_of}
 use Rattle.decl_spelling.specs.declared.mention.Mention.{Mention}
 use Rattle.decl_spelling.specs.declared.mention.Demand.{Demand}
 use Rattle.decl_spelling.specs.declared.mention.Demand.TheVariants.{Any, Parameter, Underlying, Base, NoParameter, Interface}
 use Rattle.decl_spelling.specs.Sections.{Sections, Basics, window}
+use Rattle.decl_spelling.specs.Spelled.{SpelledType, SpelledConst, without_pos}
 use Rattle.decl_spelling.specs.Codes.{basic_of, decl_tag_of}
 use Rattle.decl_spelling.specs.Reading.{Ahead, Reader, Stopped, start, or_stop, plain, number_at, truth_at, pos_at, mentioned, type_at, list_at}
 use Rattle.decl_spelling.specs.Descriptors.{Flat, sig_at, flat_at}
-use Rattle.decl_spelling.specs.Tables.{Finished, Table, at, free_to, with_block, type_named}
+use Rattle.decl_spelling.specs.Tables.{Finished, Table, at, free_to, with_block, type_named, type_spelled, tree_spelled}
 use Rattle.decl_spelling.specs.Descent.{ReadsBlock, meets, unmet, named_at, found_or_read, with_descriptor, with_basic, with_type, resolve, resolve_all, finish, block_at, offset_of}
 use Rattle.decl_spelling.specs.Constants.{Spelling, Kind, spelled, floating, none, kind_of, spelling_by, spelling_at, basic_type, value_at}
 use Rattle.decl_spelling.specs.Declarations.{Head, whole, of_type, of_constant, tparams_at, var_at, func_decl_at, generic_func_at, constant_at, defined_at, generic_defined_at, alias_at, generic_alias_at, constraint_demand, parameter_at, head_by, head_at, receiver_at, resolved, has_methods, read, methods_of, after_type, fault_alone, after_head, decl_of}
@@ -196,7 +194,7 @@ module _ (src : Sections) where
   -- ---- descriptors
 
   abbrev finishing : ℕ → Flat × Ahead → Table → Result Table ByteFault
-  finishing offset x known = Ok (with_block known offset (record { end = offset_of src x.1; tree = tree_of (retype (type_named src.version known) x.0) }))
+  finishing offset x known = Ok (with_block known offset (record { end = offset_of src x.1; tree = tree_spelled src.version known x.0 }))
 
   finish_is : (p : ReadsBlock) (offset : ℕ) (r : Result (Flat × Ahead) Stopped) (done : Table) → finish src p offset r done ≡ by_parts p offset done r (finishing offset)
   finish_is p offset (Ok x) done = refl
@@ -303,10 +301,10 @@ module _ (src : Sections) (from end : ℕ) (a : Ahead) where
       (λ pos b is. then_gives P truth_at (λ implicit a. type_at (constraint_demand implicit (place b.spot)) a >>= λ type. Ok (whole (type_parameter_of pos implicit type.0), type.1)) b
       (λ implicit c is. then_gives P (type_at (constraint_demand implicit (place b.spot))) (λ type a. Ok (whole (type_parameter_of pos implicit type), a)) c (λ type d is. done_gives P (whole (type_parameter_of pos implicit type)) d tt)))
 
-  type_some : (b c : Ahead) (type : ℕ) → type_at Any b ≡ Ok (type, c) → 0 < length b.spot.left
+  type_some : (b c : Ahead) (type : SpelledType) → type_at Any b ≡ Ok (type, c) → 0 < length b.spot.left
   unfolding type_at
   type_some b c type e =
-      let read = bind_ok (number_at b) (λ n. Ok (n.0, mentioned Any b n)) (type, c) e in
+      let read = bind_ok (number_at b) (λ n. Ok (without_pos n.0, mentioned Any b n)) (type, c) e in
       omega (arith, number_some b read.0.1 read.0.0 read.1)
 
   constant_gives : length a.spot.left ≤ a.spot.end → from ≤ place a.spot → a.spot.end ≤ end → Gives P (constant_at src a)
@@ -358,7 +356,7 @@ module _ (src : Sections) (basics : Basics) (offset : ℕ) (within : offset ≤ 
   abbrev hi : ℕ
   hi = src.body_at + length src.body
 
-  value_among : (spelling : Spelling) (b : Ahead) (r : Result (Const × Ahead) Stopped) (f : ByteFault) → IsInside src b → StaysAmong (place b.spot) b.spot.end b.mentions r → is_ended f ≡ false
+  value_among : (spelling : Spelling) (b : Ahead) (r : Result (SpelledConst × Ahead) Stopped) (f : ByteFault) → IsInside src b → StaysAmong (place b.spot) b.spot.end b.mentions r → is_ended f ≡ false
       → fault_alone r ≡ Err f → IsAmong lo hi f
   value_among spelling b (Ok v) f inside stays plain e = absurd cc
   value_among spelling b (Err s) f inside stays plain e =
@@ -368,7 +366,7 @@ module _ (src : Sections) (basics : Basics) (offset : ℕ) (within : offset ≤ 
   after_among : (head : Head) (b : Ahead) (done : Table) (f : ByteFault) → IsInside src b → b.mentions ≡ [] → HeadAmong lo hi head → is_ended f ≡ false
       → after_head src basics offset head b done ≡ Err f → IsAmong lo hi f
   after_among (whole form) b done f inside no_more here plain e = absurd cc
-  after_among (of_type pos tparams underlying) b done f inside no_more here plain e = by (has_methods (type_named src.version done underlying)) e
+  after_among (of_type pos tparams underlying) b done f inside no_more here plain e = by (has_methods (type_spelled src.version done underlying)) e
     where
       by : (methods : Bool) → after_type src offset pos tparams underlying b done methods ≡ Err f → IsAmong lo hi f
       by true e = elim (bind_err (resolved src offset (list_at (receiver_at src) b) done) (methods_of pos tparams underlying) f e) [
@@ -377,9 +375,9 @@ module _ (src : Sections) (basics : Basics) (offset : ℕ) (within : offset ≤ 
       ]
       by false e = absurd cc
   after_among (of_constant pos type at) b done f inside no_more here plain e =
-      elim (bind_err (spelling_at at (basic_type basics (type_named src.version done type))) (λ spelling. fault_alone (value_at src spelling b) >>= λ value. read (constant_of pos type value.0) value.1 done) f e) [
-        | inl one ↦ spelling_among lo hi at (basic_type basics (type_named src.version done type)) f here one
-        | inr two ↦ elim (bind_err (fault_alone (value_at src two.0 b)) (λ value. read (constant_of pos type value.0) value.1 done) f two.2) [
+      elim (bind_err (spelling_at at (basic_type basics (type_spelled src.version done type))) (λ spelling. fault_alone (value_at src spelling b) >>= λ value. read (constant_of pos type (value.0).value) (value.0).offset value.1 done) f e) [
+        | inl one ↦ spelling_among lo hi at (basic_type basics (type_spelled src.version done type)) f here one
+        | inr two ↦ elim (bind_err (fault_alone (value_at src two.0 b)) (λ value. read (constant_of pos type (value.0).value) (value.0).offset value.1 done) f two.2) [
           | inl one ↦ value_among two.0 b (value_at src two.0 b) f inside ((value_local src two.0).inside b inside.fits) plain one
           | inr last ↦ absurd (let no' = last.2 in cc)
         ]

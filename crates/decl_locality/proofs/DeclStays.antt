@@ -1,8 +1,6 @@
 -- A whole declaration depends only on the bytes up to where it ends, or up to where its fault is met.
 use Rattle.std.proofs.Common.{◌≡◌, ℕ, ◌≤◌, Bool, true, false, List, [], length, Option, Some, None, Result, Ok, Err, refl, sym, ap, ◌∙◌, inl, inr}
 use Rattle.code_tables.specs.declared.predeclared.Basic.{Basic}
-use Rattle.go_values.specs.declared.positions.Pos.{Pos}
-use Rattle.go_values.specs.declared.constants.Const.{Const}
 use Rattle.wire_bytes.specs.declared.fault.ByteFault.{ByteFault}
 use Rattle.wire_bytes.specs.declared.fault.ByteFault.TheVariants as faults
 use Rattle.wire_bytes.specs.Reading.{◌>>=◌}
@@ -11,8 +9,9 @@ use Rattle.wire_bytes.proofs.LocalLemmas.{place_more, bind_err, fault_is}
 use Rattle.wire_bytes.proofs.Steps.{bind_ok}
 use Rattle.type_terms.specs.Declarations.{constant_of, defined_of, Decl}
 use Rattle.decl_spelling.specs.Sections.{Sections, Basics, window}
+use Rattle.decl_spelling.specs.Spelled.{SpelledPos, SpelledType, SpelledConst}
 use Rattle.decl_spelling.specs.Reading.{Ahead, Stopped, start, list_at}
-use Rattle.decl_spelling.specs.Tables.{Table, type_named}
+use Rattle.decl_spelling.specs.Tables.{Table, type_spelled}
 use Rattle.decl_spelling.specs.Constants.{Spelling, Kind, spelled, floating, none, kind_of, spelling_by, spelling_at, basic_type, value_at}
 use Rattle.decl_spelling.specs.Declarations.{FlatForm, Receiver, Head, whole, of_type, of_constant, head_at, receiver_at, resolved, has_methods, Read, read, methods_of, after_type, fault_alone, after_constant, after_head, read_at, decl_of, decl_at}
 use Rattle.decl_locality.specs.LocalReaders.{longer}
@@ -29,25 +28,25 @@ read_failed Y f = Err f
 
 -- ---- what is read behind the head
 
-read_settled : (form : FlatForm) (done : Table) → IsSettled longer end_ahead (λ a. read form a done)
-read_settled form done = record {
-  stays = λ a y more e. ap (λ (n : ℕ). Ok (record { form = form; end = n; table = done })) (place_more a.spot more) ∙ e;
+read_settled : (form : FlatForm) (value : Option ℕ) (done : Table) → IsSettled longer end_ahead (λ a. read form value a done)
+read_settled form value done = record {
+  stays = λ a y more e. ap (λ (n : ℕ). Ok (record { form = form; value = value; end = n; table = done })) (place_more a.spot more) ∙ e;
   refused = λ a f more e plain. absurd cc;
   end = λ a at e. absurd cc;
   goes_on = λ a e. absurd cc;
 }
 
-methods_settled : (pos : Pos) (tparams : List ℕ) (underlying : ℕ) → IsSettled grow_typed end_typed (methods_of pos tparams underlying)
+methods_settled : (pos : SpelledPos) (tparams : List SpelledType) (underlying : SpelledType) → IsSettled grow_typed end_typed (methods_of pos tparams underlying)
 methods_settled pos tparams underlying = record {
-  stays = λ w y more e. (read_settled (defined_of pos tparams underlying w.0.0) w.1).stays w.0.1 y more e;
+  stays = λ w y more e. (read_settled (defined_of pos tparams underlying w.0.0) None w.1).stays w.0.1 y more e;
   refused = λ w f more e plain. absurd cc;
   end = λ w at e. absurd cc;
   goes_on = λ w e. absurd cc;
 }
 
-value_settled : (pos : Pos) (type : ℕ) (done : Table) → IsSettled grow_value end_value (λ (v : Const × Ahead). read (constant_of pos type v.0) v.1 done)
+value_settled : (pos : SpelledPos) (type : SpelledType) (done : Table) → IsSettled grow_value end_value (λ (v : SpelledConst × Ahead). read (constant_of pos type (v.0).value) (v.0).offset v.1 done)
 value_settled pos type done = record {
-  stays = λ v y more e. (read_settled (constant_of pos type v.0) done).stays v.1 y more e;
+  stays = λ v y more e. (read_settled (constant_of pos type (v.0).value) (v.0).offset done).stays v.1 y more e;
   refused = λ v f more e plain. absurd cc;
   end = λ v at e. absurd cc;
   goes_on = λ v e. absurd cc;
@@ -72,25 +71,25 @@ spelling_plain at (Some basic) f e = kind_plain at (kind_of basic) f e
 spelling_plain at None f e = sym (ap is_ended (fault_is (faults.NotConst at) f e))
 
 module _ (src : Sections) (basics : Basics) (offset : ℕ) where
-  type_settled : (pos : Pos) (tparams : List ℕ) (underlying : ℕ) (done : Table) (methods : Bool) → IsSettled longer end_ahead (λ a. after_type src offset pos tparams underlying a done methods)
+  type_settled : (pos : SpelledPos) (tparams : List SpelledType) (underlying : SpelledType) (done : Table) (methods : Bool) → IsSettled longer end_ahead (λ a. after_type src offset pos tparams underlying a done methods)
   type_settled pos tparams underlying done true =
       settled longer end_ahead grow_typed end_typed longer_twice (λ a. resolved src offset (list_at (receiver_at src) a) done) (methods_of pos tparams underlying)
       (resolved_part src offset done (list_at (receiver_at src)) (receivers_local src).steady) (methods_settled pos tparams underlying)
-  type_settled pos tparams underlying done false = read_settled (defined_of pos tparams underlying []) done
+  type_settled pos tparams underlying done false = read_settled (defined_of pos tparams underlying []) None done
 
-  constant_settled : (pos : Pos) (type at : ℕ) (done : Table) → IsSettled longer end_ahead (λ a. after_constant src basics pos type at a done)
-  constant_settled pos type at done = by (spelling_at at (basic_type basics (type_named src.version done type))) (spelling_plain at (basic_type basics (type_named src.version done type)))
+  constant_settled : (pos : SpelledPos) (type : SpelledType) (at : ℕ) (done : Table) → IsSettled longer end_ahead (λ a. after_constant src basics pos type at a done)
+  constant_settled pos type at done = by (spelling_at at (basic_type basics (type_spelled src.version done type))) (spelling_plain at (basic_type basics (type_spelled src.version done type)))
     where
       by : (r : Result Spelling ByteFault) → ((f : ByteFault) → r ≡ Err f → is_ended f ≡ false)
-          → IsSettled longer end_ahead (λ a. r >>= λ spelling. fault_alone (value_at src spelling a) >>= λ value. read (constant_of pos type value.0) value.1 done)
+          → IsSettled longer end_ahead (λ a. r >>= λ spelling. fault_alone (value_at src spelling a) >>= λ value. read (constant_of pos type (value.0).value) (value.0).offset value.1 done)
       by (Ok spelling) plain =
-          settled longer end_ahead grow_value end_value longer_twice (λ a. fault_alone (value_at src spelling a)) (λ (v : Const × Ahead). read (constant_of pos type v.0) v.1 done)
+          settled longer end_ahead grow_value end_value longer_twice (λ a. fault_alone (value_at src spelling a)) (λ (v : SpelledConst × Ahead). read (constant_of pos type (v.0).value) (v.0).offset v.1 done)
           (alone_part (value_at src spelling) (value_local src spelling).steady) (value_settled pos type done)
       by (Err f) plain = failed_settled Read f (plain f refl)
 
   each_settled : (head : Head) (done : Table) → IsSettled longer end_ahead (λ a. after_head src basics offset head a done)
-  each_settled (whole form) done = read_settled form done
-  each_settled (of_type pos tparams underlying) done = type_settled pos tparams underlying done (has_methods (type_named src.version done underlying))
+  each_settled (whole form) done = read_settled form None done
+  each_settled (of_type pos tparams underlying) done = type_settled pos tparams underlying done (has_methods (type_spelled src.version done underlying))
   each_settled (of_constant pos type at) done = constant_settled pos type at done
 
   abbrev pub after_typed : Typed Head → Result Read ByteFault
@@ -159,19 +158,19 @@ module _ (src : Sections) (basics : Basics) (offset : ℕ) (more : List ℕ) (wi
 
   after_same : (head : Head) (a : Ahead) (done : Table) → after_head (with_behind src more) basics offset head a done ≡ after_head src basics offset head a done
   after_same (whole form) a done = refl
-  after_same (of_type pos tparams underlying) a done = by (has_methods (type_named src.version done underlying))
+  after_same (of_type pos tparams underlying) a done = by (has_methods (type_spelled src.version done underlying))
     where
       by : (methods : Bool) → after_type (with_behind src more) offset pos tparams underlying a done methods ≡ after_type src offset pos tparams underlying a done methods
       by true =
           ap (λ (r : Result (List Receiver × Ahead) Stopped). resolved (with_behind src more) offset r done >>= methods_of pos tparams underlying) (λ i. receivers_same src more i a)
           ∙ ap (λ (r : Result (Typed (List Receiver)) ByteFault). r >>= methods_of pos tparams underlying) (resolved_same (list_at (receiver_at src) a) done)
       by false = refl
-  after_same (of_constant pos type at) a done = by (spelling_at at (basic_type basics (type_named src.version done type)))
+  after_same (of_constant pos type at) a done = by (spelling_at at (basic_type basics (type_spelled src.version done type)))
     where
       by : (r : Result Spelling ByteFault)
-          → (r >>= λ spelling. fault_alone (value_at (with_behind src more) spelling a) >>= λ value. read (constant_of pos type value.0) value.1 done)
-          ≡ (r >>= λ spelling. fault_alone (value_at src spelling a) >>= λ value. read (constant_of pos type value.0) value.1 done)
-      by (Ok spelling) = ap (λ (r : Result (Const × Ahead) Stopped). fault_alone r >>= λ value. read (constant_of pos type value.0) value.1 done) (λ i. value_same src more spelling i a)
+          → (r >>= λ spelling. fault_alone (value_at (with_behind src more) spelling a) >>= λ value. read (constant_of pos type (value.0).value) (value.0).offset value.1 done)
+          ≡ (r >>= λ spelling. fault_alone (value_at src spelling a) >>= λ value. read (constant_of pos type (value.0).value) (value.0).offset value.1 done)
+      by (Ok spelling) = ap (λ (r : Result (SpelledConst × Ahead) Stopped). fault_alone r >>= λ value. read (constant_of pos type (value.0).value) (value.0).offset value.1 done) (λ i. value_same src more spelling i a)
       by (Err f) = refl
 
   then_same : (r : Result (Typed Head) ByteFault) → (r >>= λ w. after_head (with_behind src more) basics offset w.0.0 w.0.1 w.1) ≡ (r >>= after_typed src basics offset)

@@ -3,8 +3,7 @@ use Rattle.std.proofs.Common.{◌≡◌, ℕ, ◌*◌, ◌<◌, length, subst, B
 use Rattle.std.specs.Prelude.{◌==◌, ℤ}
 use Rattle.code_tables.specs.declared.declarations.DeclTag.{DeclTag}
 use Rattle.code_tables.specs.declared.declarations.DeclTag.TheVariants.{Var, Func, GenericFunc, Const as ConstTag, Defined, GenericDefined, Alias, GenericAlias, TypeParameter}
-use Rattle.go_values.specs.declared.constants.Const.{Const}
-use Rattle.go_values.specs.declared.constants.Const.TheVariants.{Bool as truth, Int as whole_value, Str as text}
+use Rattle.go_values.specs.declared.constants.Const.TheVariants.{Bool as truth, Int as whole_value}
 use Rattle.wire_bytes.specs.declared.fault.ByteFault.{ByteFault}
 use Rattle.wire_bytes.specs.declared.fault.ByteFault.TheVariants as faults
 use Rattle.wire_bytes.specs.Reading.{Spot, place, ◌>>=◌, byte_at}
@@ -17,10 +16,11 @@ use Rattle.wire_bytes.proofs.NumbersLocal.{byte_local, byte_some, uvarint_some, 
 use Rattle.type_terms.specs.Declarations.{var_of, function_of, renamed_of, type_parameter_of}
 use Rattle.decl_spelling.specs.declared.mention.Demand.TheVariants.{Any as any, Parameter, Underlying, NoParameter}
 use Rattle.decl_spelling.specs.Sections.{Sections}
+use Rattle.decl_spelling.specs.Spelled.{SpelledConst}
 use Rattle.decl_spelling.specs.Codes.{decl_tag_of}
 use Rattle.decl_spelling.specs.Reading.{Ahead, Reader, Stopped, plain, truth_at, text_at, pos_at, type_at, list_at}
 use Rattle.decl_spelling.specs.Descriptors.{param_at, sig_at}
-use Rattle.decl_spelling.specs.Constants.{Spelling, flag, offset, number, kind_number, kind_given_at, kind_at, with_value, spelled_at, value_at}
+use Rattle.decl_spelling.specs.Constants.{Spelling, flag, offset, number, kind_number, kind_given_at, kind_at, value_alone, text_value, with_value, spelled_at, value_at}
 use Rattle.decl_spelling.specs.Declarations.{whole, of_type, of_constant, tparams_at, var_at, func_decl_at, generic_func_at, constant_at, defined_at, generic_defined_at, alias_at, generic_alias_at, constraint_demand, parameter_at, head_by, head_at, receiver_at}
 use Rattle.decl_locality.specs.LocalReaders.{IsLocal}
 use Rattle.decl_locality.proofs.InsideLemmas.{IsLocalFrom, TakesSome, from_local, same_local, done_local, done_from, then_local, then_placed, then_from, from_then}
@@ -154,19 +154,19 @@ kind_local version spelling = by (version == 1)
     by true = done_local tt
     by false = kind_given_local spelling
 
-with_value_is : {X : Type 0} (make : X → Const) (r : Result (X × Ahead) Stopped) → (r >>= λ x. Ok (make x.0, x.1)) ≡ with_value make r
+with_value_is : {X : Type 0} (make : X → SpelledConst) (r : Result (X × Ahead) Stopped) → (r >>= λ x. Ok (make x.0, x.1)) ≡ with_value make r
 with_value_is make (Ok x) = refl
 with_value_is make (Err s) = refl
 
-value_of_local : {X : Type 0} (read : Reader X) (make : X → Const) → IsLocal read → IsLocal (λ a. with_value make (read a))
+value_of_local : {X : Type 0} (read : Reader X) (make : X → SpelledConst) → IsLocal read → IsLocal (λ a. with_value make (read a))
 value_of_local read make local =
     same_local (λ a. read a >>= λ x. Ok (make x.0, x.1)) (λ a. with_value make (read a)) (λ a. with_value_is make (read a))
     (then_local read (λ x a. Ok (make x, a)) local (λ x. done_local (make x)))
 
 spelled_local : (src : Sections) (spelling : Spelling) → IsLocal (spelled_at src spelling)
-spelled_local src flag = value_of_local truth_at truth truth_local
-spelled_local src offset = value_of_local (text_at src) text (text_local src)
-spelled_local src (number signed max) = value_of_local (λ a. plain a (whole_at signed max a.spot)) whole_value (plain_local (whole_at signed max) (whole_local signed max))
+spelled_local src flag = value_of_local truth_at (λ x. value_alone (truth x)) truth_local
+spelled_local src offset = value_of_local (text_at src) text_value (text_local src)
+spelled_local src (number signed max) = value_of_local (λ a. plain a (whole_at signed max a.spot)) (λ x. value_alone (whole_value x)) (plain_local (whole_at signed max) (whole_local signed max))
 
 pub value_local : (src : Sections) (spelling : Spelling) → IsLocal (value_at src spelling)
 unfolding value_at

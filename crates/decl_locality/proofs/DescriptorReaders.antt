@@ -8,13 +8,13 @@ use Rattle.wire_bytes.specs.Uvarint.{uvarint_at}
 use Rattle.wire_bytes.proofs.NumbersLocal.{uvarint_local, uvarint_some}
 use Rattle.code_tables.specs.declared.descriptors.TypeTag.{TypeTag}
 use Rattle.code_tables.specs.declared.descriptors.TypeTag.TheVariants.{Defined, Pointer, Slice, Array, Chan, Map, Signature, Struct, Interface, TypeParameter, Instance, Union, Alias}
-use Rattle.type_terms.specs.Trees.{Text}
 use Rattle.type_terms.specs.Shapes.{named_of, parameter_of, alias_of, pointer_of, slice_of, array_of, chan_of, map_of, func_of, struct_of, interface_of, instance_of, union_of}
 use Rattle.decl_spelling.specs.declared.mention.Demand.TheVariants.{Any, Base}
 use Rattle.decl_spelling.specs.Sections.{Sections}
+use Rattle.decl_spelling.specs.Spelled.{SpelledText, SpelledPath, SpelledType, with_pos, no_origin}
 use Rattle.decl_spelling.specs.Codes.{type_tag_of, dir_of}
 use Rattle.decl_spelling.specs.Reading.{truth_at, text_at, path_at, pos_at, type_at, list_at, some_at}
-use Rattle.decl_spelling.specs.Descriptors.{Flat, Param, param_at, variadic_at, sig_at, no_origin, field_at, method_at, embedded_at, term_at, qualified_at, element_at, array_at, chan_at, map_at, func_at, struct_at, interface_at, instance_at, union_at, flat_by, flat_at}
+use Rattle.decl_spelling.specs.Descriptors.{Flat, Param, param_at, variadic_at, sig_at, field_at, method_at, embedded_at, term_at, qualified_at, element_at, array_at, chan_at, map_at, func_at, struct_at, interface_at, instance_at, union_at, flat_by, flat_at}
 use Rattle.decl_locality.specs.LocalReaders.{IsLocal}
 use Rattle.decl_locality.proofs.InsideLemmas.{done_local, then_local}
 use Rattle.decl_locality.proofs.BaseReaders.{judged_then, asked_then, truth_local, text_local, path_local, pos_local, type_local, list_local, some_local}
@@ -66,7 +66,9 @@ method_local src =
 
 embedded_local : (src : Sections) → IsLocal (embedded_at src)
 unfolding embedded_at
-embedded_local src = then_local (pos_at src) (λ pos. type_at Any) (pos_local src) (λ pos. any_local)
+embedded_local src =
+    then_local (pos_at src) (λ pos a. type_at Any a >>= λ type. Ok (with_pos pos type.0, type.1)) (pos_local src)
+    (λ pos. then_local (type_at Any) (λ type a. Ok (with_pos pos type, a)) any_local (λ type. done_local _))
 
 term_local : IsLocal term_at
 unfolding term_at
@@ -76,13 +78,13 @@ term_local =
 
 -- ---- a case for each tag
 
-qualified_local : (src : Sections) (make : Text → Text → Flat) → IsLocal (qualified_at src make)
+qualified_local : (src : Sections) (make : SpelledText → SpelledPath → Flat) → IsLocal (qualified_at src make)
 unfolding qualified_at
 qualified_local src make =
     then_local (text_at src) (λ name a. path_at src a >>= λ path. Ok (make name path.0, path.1)) (text_local src)
     (λ name. then_local (path_at src) (λ path a. Ok (make name path, a)) (path_local src) (λ path. done_local _))
 
-element_local : (make : ℕ → Flat) → IsLocal (element_at make)
+element_local : (make : SpelledType → Flat) → IsLocal (element_at make)
 unfolding element_at
 element_local make = then_local (type_at Any) (λ type a. Ok (make type, a)) any_local (λ type. done_local _)
 
@@ -132,9 +134,9 @@ interface_local src =
 instance_local : (src : Sections) → IsLocal (instance_at src)
 unfolding instance_at
 instance_local src =
-    then_local (pos_at src) (λ pos a. some_at (type_at Any) a >>= λ args. type_at Base args.1 >>= λ base. Ok (instance_of base.0 args.0, base.1)) (pos_local src)
-    (λ pos. then_local (some_at (type_at Any)) (λ args a. type_at Base a >>= λ base. Ok (instance_of base.0 args, base.1)) (some_local (type_at Any) any_local)
-    (λ args. then_local (type_at Base) (λ base a. Ok (instance_of base args, a)) (type_local Base (λ from end. tt)) (λ base. done_local _)))
+    then_local (pos_at src) (λ pos a. some_at (type_at Any) a >>= λ args. type_at Base args.1 >>= λ base. Ok (instance_of (with_pos pos base.0) args.0, base.1)) (pos_local src)
+    (λ pos. then_local (some_at (type_at Any)) (λ args a. type_at Base a >>= λ base. Ok (instance_of (with_pos pos base.0) args, base.1)) (some_local (type_at Any) any_local)
+    (λ args. then_local (type_at Base) (λ base a. Ok (instance_of (with_pos pos base) args, a)) (type_local Base (λ from end. tt)) (λ base. done_local _)))
 
 union_local : IsLocal union_at
 unfolding union_at

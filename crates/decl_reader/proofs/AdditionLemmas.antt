@@ -12,7 +12,7 @@ use Rattle.type_terms.specs.declared.descriptors.Node.{Node}
 use Rattle.type_terms.specs.Denotation.{tree}
 use Rattle.type_terms.specs.Additions.{StandsIn, Covers, AddsOnly, Outgrows}
 use Rattle.type_terms.specs.AdditionLaws.{covers_parts, covers_left, covers_right, covers_again, adds_more, additions_join, outgrown_by_more, want_of_nodes_joins}
-use Rattle.decl_spelling.specs.Descriptors.{Flat}
+use Rattle.decl_reader.specs.Shapes.{Shape}
 use Rattle.decl_reader.specs.Blocks.{Entry, AllInside}
 use Rattle.decl_reader.specs.Meant.{Named, named_by}
 use Rattle.decl_reader.proofs.ExtendsLemmas.{named_stays}
@@ -49,7 +49,7 @@ module _ {S : Type 0} (numbers : S → List ℕ) (named : Named) (types : List T
   tail_covered = covers_again types (map named (flat_map numbers (x ∷ xs))) (map named (flat_map numbers xs)) covers (others_covered named (numbers x) (flat_map numbers xs))
 
 -- a descriptor's type covers those that it names
-pub parts_covered : (named : Named) (x : Flat) → Covers (tree_of (retype named x) ∷ []) (map named (shape_types x))
+pub parts_covered : (named : Named) (x : Shape) → Covers (tree_of (retype named x) ∷ []) (map named (shape_types x))
 parts_covered named x =
     subst (Covers (tree_of (retype named x) ∷ []))
     (ap shape_types (level_of-tree_of (retype named x)) ∙ shape_types_map (λ (p : Pos). p) (λ (t : Text). t) (λ (t : Text). t) named x)

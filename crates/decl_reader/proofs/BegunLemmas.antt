@@ -27,11 +27,11 @@ use Rattle.decl_spelling.specs.Sections.{HoldsBytes}
 use Rattle.decl_spelling.specs.Tables.{at}
 use Rattle.decl_spelling.proofs.TableLaws.{free_within}
 use Rattle.decl_spelling.proofs.DeclAtLaws.{strings_are, body_is}
-use Rattle.decl_reader.specs.declared.block.Block.{Block}
-use Rattle.decl_reader.specs.declared.flat.descriptors.Flat.{Flat as FlatParts}
+use Rattle.block_reader.specs.declared.block.Block.{Block}
+use Rattle.block_reader.specs.declared.descriptors.Flat.{Flat as FlatParts}
 use Rattle.file_parts.specs.FileParts.{IsOfFile, body_of}
-use Rattle.decl_reader.specs.Calls.{ahead_of}
-use Rattle.decl_reader.specs.Shapes.{flat_shape}
+use Rattle.block_reader.specs.Calls.{ahead_of}
+use Rattle.block_reader.specs.Parts.{flat_spelled}
 use Rattle.decl_reader.specs.Opens.{IsBegun}
 use Rattle.decl_reader.proofs.ResumeLemmas.{begins}
 use Rattle.decl_reader.proofs.LeftLemmas.{begins_left}
@@ -102,7 +102,7 @@ has_argument src (map_of key type) a b parts = tt
 has_argument src (func_of home sig) a b parts = tt
 has_argument src (struct_of home fields) a b parts = tt
 has_argument src (interface_of home embedded methods) a b parts = tt
-has_argument src (instance_of base args) a b parts = parts.5
+has_argument src (instance_of base args) a b parts = parts.6
 has_argument src (union_of terms) a b parts = tt
 
 module _ (src : Sections) (strings : IsBytes src.strings) (bytes : IsBytes src.body) (offset to : ℕ) (within : to ≤ length src.body) where
@@ -171,14 +171,14 @@ module _ (src : Sections) (holds : HoldsBytes src) (entries : List Entry) (stack
   fits : to ≤ length src.body
   fits = omega (arith, to_within, within)
 
-  pub begun_whole : (flat : FlatParts) (block : Block) (own : Result (FlatParts × ℕ) ByteFault) → flat_at src (start (window src offset to)) ≡ Ok (flat_shape flat, ahead_of block)
+  pub begun_whole : (flat : FlatParts) (block : Block) (own : Result (FlatParts × ℕ) ByteFault) → flat_at src (start (window src offset to)) ≡ Ok (flat_spelled flat, ahead_of block)
       → own ≡ Ok (flat, offset_of src (ahead_of block)) → IsBegun src done entries holder named (record { start = offset; own = own; mentions = block.mentions; known = 0; named = named })
   begun_whole flat block own e own_is =
-      let read = whole src (strings_are src holds) (body_is src holds) offset to fits (flat_shape flat) (ahead_of block) order e in
+      let read = whole src (strings_are src holds) (body_is src holds) offset to fits (flat_spelled flat) (ahead_of block) order e in
       let room : HasRoom offset (offset_of src (ahead_of block)) entries = room_free nodes offset (offset_of src (ahead_of block)) holder entries stacked read.some read.ends in
       let ends : offset_of src (ahead_of block) ≤ holder = omega (arith, read.ends, to_within) in
-      let turn = begins src (length src.body) holder named done (Ok (flat_shape flat, ahead_of block)) large before (omega (arith, before, within)) none e in
-      let left = begins_left src (length src.body) holder named done (Ok (flat_shape flat, ahead_of block)) large before (omega (arith, before, within)) none e in
+      let turn = begins src (length src.body) holder named done (Ok (flat_spelled flat, ahead_of block)) large before (omega (arith, before, within)) none e in
+      let left = begins_left src (length src.body) holder named done (Ok (flat_spelled flat, ahead_of block)) large before (omega (arith, before, within)) none e in
       subst (λ (x : Result (FlatParts × ℕ) ByteFault). IsBegun src done entries holder named (record { start = offset; own = x; mentions = block.mentions; known = 0; named = named })) (sym own_is)
       (record {
         fresh = refl;
@@ -222,10 +222,10 @@ module _ (src : Sections) (holds : HoldsBytes src) (entries : List Entry) (stack
       })
 
   -- the same at an offset that is this one
-  pub begun_whole_at : (start_at : ℕ) → offset ≡ start_at → (flat : FlatParts) (block : Block) (own : Result (FlatParts × ℕ) ByteFault) → flat_at src (start (window src start_at (free_to start_at holder done))) ≡ Ok (flat_shape flat, ahead_of block)
+  pub begun_whole_at : (start_at : ℕ) → offset ≡ start_at → (flat : FlatParts) (block : Block) (own : Result (FlatParts × ℕ) ByteFault) → flat_at src (start (window src start_at (free_to start_at holder done))) ≡ Ok (flat_spelled flat, ahead_of block)
       → own ≡ Ok (flat, offset_of src (ahead_of block)) → IsBegun src done entries holder named (record { start = start_at; own = own; mentions = block.mentions; known = 0; named = named })
   begun_whole_at start_at same flat block own =
-      subst (λ (o : ℕ). flat_at src (start (window src o (free_to o holder done))) ≡ Ok (flat_shape flat, ahead_of block) → own ≡ Ok (flat, offset_of src (ahead_of block))
+      subst (λ (o : ℕ). flat_at src (start (window src o (free_to o holder done))) ≡ Ok (flat_spelled flat, ahead_of block) → own ≡ Ok (flat, offset_of src (ahead_of block))
       → IsBegun src done entries holder named (record { start = o; own = own; mentions = block.mentions; known = 0; named = named })) same (begun_whole flat block own)
 
   pub begun_fault_at : (start_at : ℕ) → offset ≡ start_at → (block : Block) (f : ByteFault) (own : Result (FlatParts × ℕ) ByteFault) → flat_at src (start (window src start_at (free_to start_at holder done))) ≡ Err (record { fault = f; mentions = block.mentions.items })

@@ -14,12 +14,14 @@ use Rattle.type_terms.specs.declared.descriptors.Node.{Node}
 use Rattle.type_terms.specs.Arenas.{Contents, Extends}
 use Rattle.type_terms.specs.Denotation.{tree}
 use Rattle.type_terms.specs.Denoted.{tree_stays}
-use Rattle.type_terms.specs.Trees.{Tree, tree_of}
-use Rattle.type_terms.specs.Shapes.{retype, predeclared_of, named_of, parameter_of, alias_of, pointer_of, slice_of, array_of, chan_of, map_of, func_of, struct_of, interface_of, instance_of, union_of}
+use Rattle.type_terms.specs.Trees.{Tree}
+use Rattle.type_terms.specs.Shapes.{retype}
+use Rattle.std.proofs.lemmas.List.{length-map}
+use Rattle.decl_spelling.specs.Spelled.{without_pos}
 use Rattle.decl_spelling.specs.declared.mention.Mention.{Mention}
 use Rattle.decl_spelling.specs.Sections.{Sections}
 use Rattle.decl_spelling.specs.Descriptors.{Flat}
-use Rattle.decl_spelling.specs.Tables.{Finished as Placed, Table, at, with_block, type_named, finished_tree}
+use Rattle.decl_spelling.specs.Tables.{Finished as Placed, Table, at, with_block, type_named, tree_spelled, finished_tree}
 use Rattle.decl_spelling.specs.Descent.{meets, unmet}
 use Rattle.decl_spelling.specs.Spelling.{IsInstanceOf}
 use Rattle.decl_spelling.specs.KnownTypes.{Kept, IsAnswered}
@@ -32,7 +34,10 @@ use Rattle.decl_reader.specs.Blocks.{Entry, finished_of, table_of, AllInside, En
 use Rattle.decl_reader.specs.Meant.{IsGenericFlat}
 use Rattle.decl_reader.specs.Faults.{IsNoFault}
 use Rattle.decl_reader.specs.Frames.{answered, with_shape}
-use Rattle.decl_reader.specs.declared.flat.descriptors.Flat.{Flat as FlatParts}
+use Rattle.block_reader.specs.declared.descriptors.Flat.{Flat as FlatParts}
+use Rattle.block_reader.specs.declared.descriptors.Flat.TheVariants as parts
+use Rattle.block_reader.specs.Parts.{flat_spelled}
+use Rattle.decl_reader.specs.Shapes.{flat_shape}
 use Rattle.decl_reader.specs.declared.fault.DeclFault.{DeclFault}
 use Rattle.decl_reader.specs.declared.fault.DeclFault.TheVariants.{Bytes, Nodes, OutOfMemory}
 use Rattle.decl_reader.specs.Opens.{IsReady, IsOpen, IsOwn, IsClosed, IsFinished, EndsBefore, Resolves, HasArgument, checked_type}
@@ -62,27 +67,26 @@ grown_ready limit old new es after extends ready same = record {
 
 -- ---- the base of an instance
 
-generic_by : (src : Sections) (done : Table) (x : Flat) → HasArgument x → IsInstanceOf (retype (known_as src done) x) → IsGenericFlat src.version done x
-generic_by src done (predeclared_of basic) argument base = tt
-generic_by src done (named_of name path) argument base = tt
-generic_by src done (parameter_of name path) argument base = tt
-generic_by src done (alias_of name path) argument base = tt
-generic_by src done (pointer_of type) argument base = tt
-generic_by src done (slice_of type) argument base = tt
-generic_by src done (array_of size type) argument base = tt
-generic_by src done (chan_of dir type) argument base = tt
-generic_by src done (map_of key type) argument base = tt
-generic_by src done (func_of home sig) argument base = tt
-generic_by src done (struct_of home fields) argument base = tt
-generic_by src done (interface_of home embedded methods) argument base = tt
-generic_by src done (instance_of b args) argument base = (base, argument)
-generic_by src done (union_of terms) argument base = tt
+generic_by : (src : Sections) (done : Table) (x : FlatParts) → HasArgument (flat_spelled x) → IsInstanceOf (retype (known_as src done) (flat_spelled x)) → IsGenericFlat src.version done (flat_shape x)
+generic_by src done (parts.Defined q) argument base = tt
+generic_by src done (parts.TypeParameter q) argument base = tt
+generic_by src done (parts.Alias q) argument base = tt
+generic_by src done (parts.Pointer ty) argument base = tt
+generic_by src done (parts.Slice ty) argument base = tt
+generic_by src done (parts.Array len ty) argument base = tt
+generic_by src done (parts.Chan dir ty) argument base = tt
+generic_by src done (parts.Map key ty) argument base = tt
+generic_by src done (parts.Func home sig) argument base = tt
+generic_by src done (parts.Struct home fields) argument base = tt
+generic_by src done (parts.Interface home embedded methods) argument base = tt
+generic_by src done (parts.Instance pos b args) argument base = (base, omega (arith, argument, length-map args.items without_pos))
+generic_by src done (parts.Union terms) argument base = tt
 
-pub generic_flat : (src : Sections) (done : Table) (start k : ℕ) (ms : List Mention) (x : Flat) → k ≡ length ms → AllByRecursion (IsAnswered src done start) (take k ms) → map ask_of ms ≡ shape_asks x → HasArgument x
-    → IsGenericFlat src.version done x
+pub generic_flat : (src : Sections) (done : Table) (start k : ℕ) (ms : List Mention) (x : FlatParts) → k ≡ length ms → AllByRecursion (IsAnswered src done start) (take k ms) → map ask_of ms ≡ shape_asks (flat_spelled x) → HasArgument (flat_spelled x)
+    → IsGenericFlat src.version done (flat_shape x)
 generic_flat src done start k ms x all answers asks argument =
     let each : AllByRecursion (IsAnswered src done start) ms = subst (AllByRecursion (IsAnswered src done start)) (take_all k ms (omega (arith, all))) answers in
-    generic_by src done x argument (base_met src done start x (mentions_met src done start ms (shape_asks x) asks each))
+    generic_by src done x argument (base_met src done start (flat_spelled x) (mentions_met src done start ms (shape_asks (flat_spelled x)) asks each))
 
 -- ---- the new block
 
@@ -135,13 +139,13 @@ module _ (src : Sections) (done : Table) (m : Mention) (start : ℕ) (fin : Plac
 -- ---- a descriptor that joined the finished ones
 
 module _ (src : Sections) (old new : Contents) (es after : List Entry) (start : ℕ) (x : Flat) (end node : ℕ) (extends : Extends old new) (ready : IsReady (length src.body) (length old.nodes) es)
-    (added : table_of new.nodes after ≡ with_block (table_of new.nodes es) start (record { end = end; tree = tree new.nodes node })) (denotes : tree new.nodes node ≡ tree_of (retype (type_named src.version (table_of old.nodes es)) x))
+    (added : table_of new.nodes after ≡ with_block (table_of new.nodes es) start (record { end = end; tree = tree new.nodes node })) (denotes : tree new.nodes node ≡ tree_spelled src.version (table_of old.nodes es) x)
     (m : Mention) (its_start : m.value ≡ 32 + start) where
   abbrev done : Table
   done = table_of old.nodes es
 
   abbrev fin : Placed
-  fin = record { end = end; tree = tree_of (retype (type_named src.version done) x) }
+  fin = record { end = end; tree = tree_spelled src.version done x }
 
   pub joined : table_of new.nodes after ≡ with_shape src.version start (x, end) done
   joined =

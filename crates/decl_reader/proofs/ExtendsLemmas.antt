@@ -9,6 +9,8 @@ use Rattle.type_terms.specs.Extensions.{extends_longer, extends_tree, extends_be
 use Rattle.type_terms.specs.Replaced.{all_left, all_right, all_append}
 use Rattle.type_terms.specs.ShapeLaws.{Agree}
 use Rattle.decl_spelling.specs.Tables.{type_named}
+use Rattle.block_reader.specs.declared.spelled.Embedded.{Embedded}
+use Rattle.decl_reader.specs.Shapes.{element_type}
 use Rattle.decl_reader.specs.Blocks.{Entry, table_of, AllInside}
 use Rattle.decl_reader.specs.Meant.{Named, named_by}
 
@@ -73,6 +75,10 @@ none_left (x ∷ xs) h = absurd (omega arith)
 pub numbers_below : (size : ℕ) (ids : List ℕ) → AllBelow size (flat_map (λ (id : ℕ). id ∷ []) (map (λ (id : ℕ). id) ids)) → AllBelow size ids
 numbers_below size [] below = tt
 numbers_below size (id ∷ ids) below = (below.0, numbers_below size ids below.1)
+
+pub numbers_of_elements : (elements : List Embedded) → flat_map (λ (number : ℕ). number ∷ []) (map element_type elements) ≡ map element_type elements
+numbers_of_elements [] = refl
+numbers_of_elements (e ∷ es) = ap (λ (rest : List ℕ). e.ty ∷ rest) (numbers_of_elements es)
 
 pub numbers_are : (numbers : List ℕ) → flat_map (λ (number : ℕ). number ∷ []) (map (λ (number : ℕ). number) numbers) ≡ numbers
 numbers_are [] = refl

@@ -12,7 +12,7 @@ use Rattle.decl_spelling.proofs.Windows.{IsBytes-take}
 use Rattle.decl_spelling.proofs.LeadTakes.{AreBytes, head_taken}
 use Rattle.decl_spelling.proofs.LeadAgain.{head_again}
 use Rattle.decl_reader.specs.declared.heads.Head.{Head}
-use Rattle.decl_reader.specs.Calls.{sections_of}
+use Rattle.block_reader.specs.Calls.{sections_of}
 use Rattle.decl_reader.specs.Leads.{lead}
 
 -- the bytes of the sections are bytes of the file

@@ -1,6 +1,4 @@
 pub mod TypeOffLemmas
-pub mod StopsLemmas
-pub mod TimesLemmas
 pub mod PassTimesLemmas
 pub mod HeadLemmas
 pub mod StackedLemmas
@@ -14,6 +12,7 @@ pub mod ClosedLemmas
 pub mod DescentLoop
 pub mod ExtendsLemmas
 pub mod AdditionLemmas
+pub mod MeantLemmas
 pub mod GenericFlatLemmas
 pub mod WholeLemmas
 pub mod LeftDeclLemmas

@@ -1,33 +1,39 @@
 -- A declaration's parts, with the types that they name, come to what reading gives.
-use Rattle.std.proofs.Common.{◌≡◌, ℕ, ◌<◌, ◌≤◌, Bool, true, false, List, [], ◌∷◌, length, Result, Ok, Err, refl, sym, ap, ◌∙◌, arith}
+use Rattle.std.proofs.Common.{◌≡◌, ℕ, ◌≤◌, Bool, true, false, List, [], length, Result, Ok, Err, None, refl, sym, ap, subst, ◌∙◌, arith}
 use Rattle.std.specs.Prelude.{IfOk, IfErr}
-use Rattle.std.specs.List.{AllByRecursion}
-use Rattle.go_values.specs.declared.positions.Pos.{Pos}
 use Rattle.wire_bytes.specs.declared.fault.ByteFault.{ByteFault}
 use Rattle.wire_bytes.specs.Reading.{◌>>=◌}
-use Rattle.wire_bytes.proofs.Spellings.{IsBytes, IsBytes-rest}
-use Rattle.file_parts.specs.declared.parts.Parts.{Parts}
 use Rattle.type_terms.specs.declared.descriptors.Node.{Node}
 use Rattle.type_terms.specs.declared.declarations.DeclNode.{DeclNode}
 use Rattle.type_terms.specs.Declarations.{Decl, constant_of}
 use Rattle.type_terms.specs.Declarations.{decl_of}
 use Rattle.decl_spelling.specs.declared.mention.Mention.{Mention}
 use Rattle.decl_spelling.specs.Sections.{Sections, Basics, HoldsBytes, window}
+use Rattle.decl_spelling.specs.Spelled.{SpelledPos, SpelledType}
 use Rattle.decl_spelling.specs.Reading.{Ahead, Stopped, start}
-use Rattle.decl_spelling.specs.Tables.{Table, at, type_named}
+use Rattle.decl_spelling.specs.Tables.{Table, at, type_spelled}
 use Rattle.decl_spelling.specs.Descent.{block_at, resolve_all}
 use Rattle.decl_spelling.specs.Constants.{basic_type, spelling_at, value_at}
 use Rattle.decl_spelling.specs.Declarations.{Head, Read, read, head_at, resolved, methods_of, after_type, fault_alone, after_constant, after_head, read_at, decl_of as decl_read, decl_at, FirstFault}
 use Rattle.decl_spelling.specs.Spelling.{SpellsDecl}
 use Rattle.decl_spelling.proofs.Bounds.{resolve_all_same, block_same}
-use Rattle.decl_spelling.proofs.DeclAtLaws.{decl_found}
+use Rattle.decl_spelling.specs.Grammar.{Here}
+use Rattle.decl_spelling.proofs.Took.{IsHead, seen_from}
+use Rattle.decl_spelling.proofs.FlatLaws.{head_took}
+use Rattle.decl_spelling.proofs.BlockTakes.{window_fits}
+use Rattle.decl_spelling.proofs.DeclTakes.{resolved_ok}
+use Rattle.decl_spelling.proofs.DeclAtLaws.{strings_are, body_is, decl_found}
+use Rattle.block_reader.specs.declared.declarations.DeclParts.{DeclParts}
+use Rattle.block_reader.specs.declared.declarations.DeclParts.TheVariants as decls
+use Rattle.block_reader.specs.declared.declarations.DeclHead.{DeclHead}
+use Rattle.block_reader.specs.declared.declarations.DeclHead.TheVariants as heads
+use Rattle.block_reader.specs.Parts.{head_spelled, value_spelled}
+use Rattle.decl_reader.specs.Forms.{IsUpToTypes}
 use Rattle.decl_reader.specs.declared.fault.DeclFault.{DeclFault}
 use Rattle.decl_reader.specs.declared.fault.DeclFault.TheVariants.{Bytes, Nodes, OutOfMemory}
-use Rattle.decl_reader.specs.Calls.{sections_of}
 use Rattle.decl_reader.specs.Faults.{IsNoFault}
 use Rattle.decl_reader.specs.Opens.{reads, Resolves}
 use Rattle.decl_reader.specs.Wholes.{FaultIs, IfFault, ReadsDecl, all_known, methods_by, value_by}
-use Rattle.decl_reader.proofs.HeadLemmas.{are_bytes}
 
 -- ---- types
 
@@ -73,15 +79,15 @@ bind_twice (Err e) f g = refl
 
 -- ---- methods and values
 
-pub methods_then : (src : Sections) (offset : ℕ) (pos : Pos) (tparams : List ℕ) (underlying : ℕ) (a : Ahead) (done : Table) (own : Bool)
+pub methods_then : (src : Sections) (offset : ℕ) (pos : SpelledPos) (tparams : List SpelledType) (underlying : SpelledType) (a : Ahead) (done : Table) (own : Bool)
     → (methods_by src offset a done own >>= methods_of pos tparams underlying) ≡ after_type src offset pos tparams underlying a done own
 methods_then src offset pos tparams underlying a done true = refl
 methods_then src offset pos tparams underlying a done false = refl
 
-pub value_then : (src : Sections) (basics : Basics) (pos : Pos) (type at : ℕ) (a : Ahead) (done : Table)
-    → (value_by src at (basic_type basics (type_named src.version done type)) a >>= λ value. read (constant_of pos type value.0) value.1 done) ≡ after_constant src basics pos type at a done
+pub value_then : (src : Sections) (basics : Basics) (pos : SpelledPos) (type : SpelledType) (at : ℕ) (a : Ahead) (done : Table)
+    → (value_by src at (basic_type basics (type_spelled src.version done type)) a >>= λ value. read (constant_of pos type (value.0).value) (value.0).offset value.1 done) ≡ after_constant src basics pos type at a done
 value_then src basics pos type at a done =
-    bind_twice (spelling_at at (basic_type basics (type_named src.version done type))) (λ spelling. fault_alone (value_at src spelling a)) (λ value. read (constant_of pos type value.0) value.1 done)
+    bind_twice (spelling_at at (basic_type basics (type_spelled src.version done type))) (λ spelling. fault_alone (value_at src spelling a)) (λ value. read (constant_of pos type (value.0).value) (value.0).offset value.1 done)
 
 -- ---- the whole
 
@@ -124,15 +130,34 @@ module _ (src : Sections) (basics : Basics) (offset : ℕ) where
   kept_is head a known x nodes (Err Nodes) first rest means none = tt
   kept_is head a known x nodes (Err OutOfMemory) first rest means none = tt
 
+-- No head is a whole constant, since none stands there.
+module _ (src : Sections) (holds : HoldsBytes src) (offset to : ℕ) (head : DeclHead) (a b : Ahead) (done known : Table) (at : a ≡ start (window src offset to)) where
+  pub up_to_types : resolved src offset (head_at src a) done ≡ Ok ((head_spelled head, b), known) → IsUpToTypes head
+  up_to_types is =
+      let first = resolved_ok src offset (head_at src (start (window src offset to))) done ((head_spelled head, b), known) (ap (λ (c : Ahead). resolved src offset (head_at src c) done) (sym at) ∙ is) in
+      let taken = head_took src (strings_are src holds) (start (window src offset to)) (window_fits src offset to (body_is src holds)) (first.0).0 (first.0).1 first.1 in
+      let same : (first.0).0 ≡ head_spelled head = ap (λ (x : Head × Ahead). x.0) first.3 in
+      none head (_) (_) (subst (λ (x : Head). IsHead src (seen_from (start (window src offset to)) []) x (seen_from (first.0).1 [])) same (taken.stands []))
+    where
+      none : (head : DeclHead) (c d : Here) → IsHead src c (head_spelled head) d → IsUpToTypes head
+      none (heads.Whole (decls.Constant pos ty value)) c d stands = stands.parts
+      none (heads.Whole (decls.Var pos ty)) c d stands = tt
+      none (heads.Whole (decls.Func pos tparams sig)) c d stands = tt
+      none (heads.Whole (decls.Defined pos tparams underlying methods)) c d stands = tt
+      none (heads.Whole (decls.Alias pos tparams ty)) c d stands = tt
+      none (heads.Whole (decls.Parameter pos implicit bound)) c d stands = tt
+      none (heads.Defined pos tparams underlying) c d stands = tt
+      none (heads.Constant pos ty at) c d stands = tt
+
+pub no_value : (parts : DeclParts) → IsUpToTypes (heads.Whole parts) → value_spelled parts ≡ None
+no_value (decls.Constant pos ty value) is = absurd is
+no_value (decls.Var pos ty) is = refl
+no_value (decls.Func pos tparams sig) is = refl
+no_value (decls.Defined pos tparams underlying methods) is = refl
+no_value (decls.Alias pos tparams ty) is = refl
+no_value (decls.Parameter pos implicit bound) is = refl
+
 -- ---- what a public call says of it
-
-all_bytes : (bytes : List ℕ) → IsBytes bytes → AllByRecursion (λ b. b < 256) bytes
-all_bytes [] fits = tt
-all_bytes (b ∷ bytes) fits = (omega (arith, fits 0), all_bytes bytes (IsBytes-rest b bytes fits))
-
--- the sections of a file hold bytes
-pub holds_bytes : (p : Parts) → IsBytes p.file.now → HoldsBytes (sections_of p)
-holds_bytes p fits = let are = are_bytes p fits in (all_bytes (sections_of p).strings are.strings, all_bytes (sections_of p).body are.body)
 
 pub is_spelled : (src : Sections) (basics : Basics) (offset : ℕ) (nodes : List Node) (r : Result DeclNode DeclFault) → HoldsBytes src → ReadsDecl r nodes (decl_at src basics offset) → IfOk r (λ node. SpellsDecl src basics offset (decl_of nodes node))
 is_spelled src basics offset nodes (Ok node) holds is = decl_found src basics holds offset (decl_of nodes node) is

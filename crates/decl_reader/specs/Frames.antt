@@ -2,13 +2,11 @@
 use Rattle.std.specs.Prelude.{ℕ, List, [], ◌∷◌, Result, Ok, Err}
 use Rattle.wire_bytes.specs.declared.fault.ByteFault.{ByteFault}
 use Rattle.wire_bytes.specs.Reading.{◌>>=◌, demand}
-use Rattle.type_terms.specs.Shapes.{retype}
-use Rattle.type_terms.specs.Trees.{tree_of}
 use Rattle.decl_spelling.specs.declared.mention.Mention.{Mention}
 use Rattle.decl_spelling.specs.Sections.{Sections}
 use Rattle.decl_spelling.specs.Reading.{Ahead, Stopped}
 use Rattle.decl_spelling.specs.Descriptors.{Flat}
-use Rattle.decl_spelling.specs.Tables.{Table, with_block, type_named}
+use Rattle.decl_spelling.specs.Tables.{Table, with_block, type_named, tree_spelled}
 use Rattle.decl_spelling.specs.Descent.{ReadsBlock, meets, unmet, named_at, resolve_all, offset_of}
 
 -- where it starts, its types that are still to be known, its shape and where it ends or the fault in its own bytes, and
@@ -34,7 +32,7 @@ answered version m done = demand (meets m.asked (type_named version done m.value
 
 abbrev pub with_shape : ℕ → ℕ → Flat × ℕ → Table → Table
 with_shape version start x done =
-    with_block done start (record { end = x.1; tree = tree_of (retype (type_named version done) x.0) })
+    with_block done start (record { end = x.1; tree = tree_spelled version done x.0 })
 
 -- A descriptor whose types are known is closed: it is among the finished ones, or it was at fault.
 abbrev pub closed_by : ℕ → ℕ → Mention → Result (Flat × ℕ) ByteFault → Table → Result Table ByteFault

@@ -1,19 +1,18 @@
 -- What reading leaves: the types of the descriptors that are read whole, by those that are open.
 use Rattle.std.specs.Prelude.{ℕ, List, [], ◌∷◌, ◌++◌, length, Result, Ok, Err}
 use Rattle.wire_bytes.specs.declared.fault.ByteFault.{ByteFault}
-use Rattle.type_terms.specs.Shapes.{retype}
-use Rattle.type_terms.specs.Trees.{Tree, tree_of}
+use Rattle.type_terms.specs.Trees.{Tree}
 use Rattle.decl_spelling.specs.declared.mention.Mention.{Mention}
 use Rattle.decl_spelling.specs.Sections.{Sections}
 use Rattle.decl_spelling.specs.Descriptors.{Flat}
-use Rattle.decl_spelling.specs.Tables.{Table, type_named}
+use Rattle.decl_spelling.specs.Tables.{Table, tree_spelled}
 use Rattle.decl_spelling.specs.Descent.{ReadsBlock, block_at, resolve_all}
 use Rattle.decl_spelling.specs.Leaving.{LeavesBlock, if_well, left_by_type, left_by_types, left_at}
 use Rattle.decl_reader.specs.Frames.{Frame, closed}
 
 -- where a descriptor is closed it leaves its type, unless its own bytes were at fault
 abbrev pub left_closed_by : ℕ → Result (Flat × ℕ) ByteFault → Table → List Tree
-left_closed_by version (Ok x) done = tree_of (retype (type_named version done) x.0) ∷ []
+left_closed_by version (Ok x) done = tree_spelled version done x.0 ∷ []
 left_closed_by version (Err f) done = []
 
 abbrev pub left_closed : ℕ → Frame → Table → List Tree

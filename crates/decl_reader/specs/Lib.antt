@@ -1,8 +1,6 @@
 pub mod Faults
 pub mod TypeOffs
-pub mod Calls
 pub mod Shapes
-pub mod Spellings
 pub mod Forms
 pub mod Leads
 pub mod Blocks

@@ -12,8 +12,10 @@ use Rattle.type_terms.specs.Replaced.{all_left, all_right, map_agrees}
 use Rattle.type_terms.specs.Trees.{Text, Tree, Level}
 use Rattle.type_terms.specs.Declarations.{ReceiverOf, Form, Decl, receiver_map, receiver_types, form_map, form_types}
 use Rattle.type_terms.specs.DeclarationLaws.{form_agrees}
-use Rattle.decl_spelling.specs.Descriptors.{Flat}
-use Rattle.decl_spelling.specs.Tables.{Table, type_named}
+use Rattle.decl_spelling.specs.Spelled.{form_meant}
+use Rattle.decl_spelling.specs.Tables.{Table, type_named, type_spelled}
+use Rattle.block_reader.specs.declared.declarations.DeclParts.{DeclParts}
+use Rattle.block_reader.specs.Parts.{form_spelled}
 use Rattle.decl_spelling.specs.Descent.{is_generic}
 use Rattle.decl_reader.specs.Blocks.{Entry, table_of}
 
@@ -52,10 +54,16 @@ abbrev pub decl_meant : Named → Form Pos Text ℕ → Decl
 decl_meant named x = form_map (λ (p : Pos). p) (λ (t : Text). t) named x
 
 -- an instance has the name of a generic type, and an argument
-abbrev pub IsGenericFlat : ℕ → Table → Flat → Type 0
+abbrev pub IsGenericFlat : ℕ → Table → Shape Pos Text Text ℕ → Type 0
 IsGenericFlat version done (instance_of base args) =
     (is_generic (type_named version done base) ≡ true) × (0 < length args)
 IsGenericFlat version done _ = Unit {0}
+
+-- what a declaration that was read means, with the types that its numbers name
+abbrev pub decl_named : ℕ → List Node → List Entry → DeclParts → Decl
+decl_named version nodes entries parts =
+    form_meant
+    (form_map (λ pos. pos) (λ text. text) (type_spelled version (table_of nodes entries)) (form_spelled parts))
 
 -- ---- two that agree on its types give one meaning
 

@@ -17,11 +17,11 @@ use Rattle.decl_spelling.specs.Tables.{Table, Finished}
 use Rattle.decl_spelling.specs.Descent.{ReadsBlock, block_at, resolve, resolve_all, meets, unmet}
 use Rattle.decl_spelling.specs.KnownTypes.{Kept, IsAnswered}
 use Rattle.decl_spelling.specs.Asks.{ask_of, shape_asks}
-use Rattle.decl_reader.specs.declared.flat.descriptors.Flat.{Flat}
+use Rattle.block_reader.specs.declared.descriptors.Flat.{Flat}
 use Rattle.decl_reader.specs.declared.descent.Open.{Open}
 use Rattle.decl_reader.specs.declared.fault.DeclFault.{DeclFault}
 use Rattle.decl_reader.specs.declared.fault.DeclFault.TheVariants.{Bytes, Nodes, OutOfMemory}
-use Rattle.decl_reader.specs.Shapes.{flat_shape}
+use Rattle.block_reader.specs.Parts.{flat_spelled}
 use Rattle.decl_reader.specs.Blocks.{Entry, AllInside, EndsBy, HasRoom, IsStacked, bytes_of}
 use Rattle.decl_reader.specs.Frames.{Frame, closed_by, resume}
 use Rattle.decl_reader.specs.Left.{left_opened, left_resume, left_type, leaves}
@@ -54,7 +54,7 @@ Resolves (Err Nodes) known read = Unit {0}
 Resolves (Err OutOfMemory) known read = Unit {0}
 
 abbrev pub own_shape : Result (Flat × ℕ) ByteFault → Result (Shape × ℕ) ByteFault
-own_shape (Ok x) = Ok (flat_shape x.0, x.1)
+own_shape (Ok x) = Ok (flat_spelled x.0, x.1)
 own_shape (Err f) = Err f
 
 -- an open descriptor whose mentions from one on are still to be known
@@ -82,7 +82,7 @@ HasArgument _ = Unit {0}
 -- What was read whole is what its mentions say, and no finished descriptor has a byte of it.
 abbrev pub IsOwn : List Entry → ℕ → List Mention → Result (Flat × ℕ) ByteFault → Type 0
 IsOwn entries start mentions (Ok x) =
-    (map ask_of mentions ≡ shape_asks (flat_shape x.0)) × HasArgument (flat_shape x.0) × (start < x.1)
+    (map ask_of mentions ≡ shape_asks (flat_spelled x.0)) × HasArgument (flat_spelled x.0) × (start < x.1)
     × HasRoom start x.1 entries
 IsOwn entries start mentions (Err f) = Unit {0}
 

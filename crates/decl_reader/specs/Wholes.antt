@@ -2,7 +2,6 @@
 use Rattle.std.specs.Prelude.{◌≡◌, ℕ, ◌+◌, ◌-◌, List, [], Bool, true, false, Result, Ok, Err, IfOk, Option}
 use Rattle.std.specs.List.{sum_by}
 use Rattle.code_tables.specs.declared.predeclared.Basic.{Basic}
-use Rattle.go_values.specs.declared.constants.Const.{Const}
 use Rattle.wire_bytes.specs.declared.fault.ByteFault.{ByteFault}
 use Rattle.wire_bytes.specs.declared.fault.ReadFault.{ReadFault}
 use Rattle.wire_bytes.specs.Reading.{place, ◌>>=◌}
@@ -11,17 +10,20 @@ use Rattle.type_terms.specs.declared.declarations.DeclNode.{DeclNode}
 use Rattle.type_terms.specs.Declarations.{Decl}
 use Rattle.type_terms.specs.Declarations.{decl_of}
 use Rattle.decl_spelling.specs.Sections.{Sections, Basics}
+use Rattle.decl_spelling.specs.Spelled as of
+use Rattle.block_reader.specs.declared.spelled.SpelledConst.{SpelledConst}
 use Rattle.decl_spelling.specs.Reading.{Ahead, list_at}
 use Rattle.decl_spelling.specs.declared.mention.Mention.{Mention}
 use Rattle.decl_spelling.specs.Tables.{Table}
 use Rattle.decl_spelling.specs.Descent.{block_at, resolve_all}
 use Rattle.decl_spelling.specs.Constants.{spelling_at, value_at}
 use Rattle.decl_spelling.specs.Declarations.{Receiver, receiver_at, resolved, fault_alone, Read, read_at}
-use Rattle.decl_reader.specs.declared.flat.declarations.DeclParts.{DeclParts}
+use Rattle.block_reader.specs.declared.declarations.DeclParts.{DeclParts}
 use Rattle.decl_reader.specs.declared.fault.DeclFault.{DeclFault}
 use Rattle.decl_reader.specs.declared.fault.DeclFault.TheVariants.{Bytes, Nodes, OutOfMemory}
 use Rattle.decl_reader.specs.Faults.{of_read}
-use Rattle.decl_reader.specs.Forms.{decl_form}
+use Rattle.block_reader.specs.Spelled.{const_spelled}
+use Rattle.block_reader.specs.Parts.{form_spelled, value_spelled}
 
 -- an error that names a fault is what reading gives; want of nodes or memory says nothing
 abbrev pub FaultIs : {X : Type 0} → DeclFault → Result X ByteFault → Type 0
@@ -49,17 +51,23 @@ methods_by src offset a done true = resolved src offset (list_at (receiver_at sr
 methods_by src offset a done false = Ok (([], a), done)
 
 -- the value of a constant whose type comes down to a predeclared one
-abbrev pub value_by : Sections → ℕ → Option Basic → Ahead → Result (Const × Ahead) ByteFault
+abbrev pub value_by : Sections → ℕ → Option Basic → Ahead → Result (of.SpelledConst × Ahead) ByteFault
 value_by src at basic a = spelling_at at basic >>= λ spelling. fault_alone (value_at src spelling a)
 
-abbrev pub IsValue : Result Const ReadFault → Ahead → Result (Const × Ahead) ByteFault → Type 0
-IsValue (Ok value) ahead read = read ≡ Ok (value, ahead)
+abbrev pub IsValue : Result SpelledConst ReadFault → Ahead → Result (of.SpelledConst × Ahead) ByteFault → Type 0
+IsValue (Ok value) ahead read = read ≡ Ok (const_spelled value, ahead)
 IsValue (Err e) ahead read = FaultIs (of_read e) read
 
 -- a declaration with types as numbers, what is ahead of it, and the types that it reaches
 abbrev pub IsWhole : Result DeclParts DeclFault → Ahead → Table → Result Read ByteFault → Type 0
 IsWhole (Ok parts) ahead known read =
-    read ≡ Ok (record { form = decl_form parts; end = place ahead.spot; table = known })
+    read
+    ≡ Ok (record {
+      form = form_spelled parts;
+      value = value_spelled parts;
+      end = place ahead.spot;
+      table = known;
+    })
 IsWhole (Err e) ahead known read = FaultIs e read
 
 -- the bytes of the descriptors that a declaration reaches, each once, and its own

@@ -12,8 +12,9 @@ ghost use Rattle.decl_spelling.specs.Reading.{start};
 ghost use Rattle.decl_spelling.specs.Declarations.{head_at, resolved, after_head, decl_at, FirstFault};
 ghost use Rattle.decl_spelling.specs.Leaving.{left_by_part, left_after_head, types_read};
 ghost use Rattle.decl_spelling.specs.Spelling.{SpellsDecl};
-ghost use Rattle.decl_reader.specs.Calls.{sections_of, ahead_of};
-ghost use Rattle.decl_reader.specs.Forms.{head_shape};
+ghost use Rattle.block_reader.specs.Calls.{sections_of, ahead_of};
+ghost use Rattle.block_reader.specs.Parts.{head_spelled};
+ghost use Rattle.decl_reader.specs.Forms.{IsUpToTypes};
 ghost use Rattle.decl_reader.specs.Progress.{known, IsReadyFor, Adds, GoesOn};
 ghost use Rattle.decl_reader.specs.Wholes.{IsPart, IsWhole, ReadsDecl, IfFault, CountsReached};
 
@@ -22,12 +23,11 @@ mod methods;
 mod parts;
 
 use crate::basics::Basics;
-use crate::block::Block;
 use crate::fault::DeclFault;
-use crate::flat::{DeclHead, DeclParts, read_declaration_head};
 use crate::nodes::add_declaration;
 use crate::reading::Reading;
 use crate::table::Table;
+use block_reader::{Block, DeclHead, DeclParts, read_declaration_head};
 use file_parts::Parts;
 use std::alloc::Global;
 use std::sync::ledger::Ledger;
@@ -123,7 +123,7 @@ impl<L: Ledger> Reading<'_, L> {
         requires of_file { IsOfFile parts.now }
         requires ready { IsReadyFor parts.now self.old }
         requires within { offset ≤ parts.now.body_len }
-        ensures exact { IsPart head_shape result (ahead_of block.new) (known self.new)
+        ensures exact { IsPart head_spelled result (ahead_of block.new) (known self.new)
             (resolved (sections_of parts.now) offset (head_at (sections_of parts.now) (ahead_of block.old))
             (known self.old)) }
         ensures adds { AddsOnly
@@ -161,14 +161,15 @@ impl<L: Ledger> Reading<'_, L> {
         requires of_file { IsOfFile parts.now }
         requires ready { IsReadyFor parts.now self.old }
         requires within { offset ≤ parts.now.body_len }
+        requires whole { IsUpToTypes head }
         ensures exact { IsWhole result (ahead_of block.new) (known self.new)
-            (after_head (sections_of parts.now) (B.meaning basics.now) offset (head_shape head) (ahead_of block.old)
+            (after_head (sections_of parts.now) (B.meaning basics.now) offset (head_spelled head) (ahead_of block.old)
             (known self.old)) }
         ensures adds { AddsOnly
-            (left_after_head (sections_of parts.now) offset (head_shape head) (ahead_of block.old) (known self.old))
+            (left_after_head (sections_of parts.now) offset (head_spelled head) (ahead_of block.old) (known self.old))
             self.old.arena.now self.new.arena.now }
         ensures outgrown { IsErrOf result DeclFault.Nodes → Outgrows self.old.arena.now
-            (left_after_head (sections_of parts.now) offset (head_shape head) (ahead_of block.old) (known self.old)) }
+            (left_after_head (sections_of parts.now) offset (head_spelled head) (ahead_of block.old) (known self.old)) }
         ensures goes_on { GoesOn parts.now self.old result self.new }
     {
         match head {

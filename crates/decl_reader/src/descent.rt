@@ -9,9 +9,10 @@ ghost use Rattle.file_parts.specs.FileParts.{IsOfFile, body_of};
 ghost use Rattle.decl_spelling.specs.Tables.{at};
 ghost use Rattle.decl_spelling.specs.Codes.{basic_of};
 ghost use Rattle.decl_spelling.specs.Descent.{named_at as renamed};
-ghost use Rattle.decl_reader.specs.Calls.{sections_of};
+ghost use Rattle.block_reader.specs.Calls.{sections_of};
 ghost use Rattle.decl_reader.specs.Blocks.{table_of, finished_of, HasRoom};
 ghost use Rattle.decl_reader.specs.Meant.{IsGenericFlat};
+ghost use Rattle.block_reader.specs.Parts.{flat_spelled};
 ghost use Rattle.decl_reader.specs.Shapes.{flat_shape};
 ghost use Rattle.decl_reader.specs.Frames.{answered, closed, with_shape};
 ghost use Rattle.decl_reader.specs.Left.{left_closed, left_closed_by, left_type, left_types};
@@ -20,15 +21,13 @@ ghost use Rattle.decl_reader.specs.Opens.{Resolves, Begins, resumed, left_resume
 ghost use Rattle.decl_reader.specs.Opens.{checked_basic, checked_type, checked_finished};
 ghost use Rattle.decl_reader.specs.Progress.{known, IsReadyFor, GoesOn};
 
-use crate::block::Block;
-use crate::codes::basic_of;
 use crate::demands::{basic_meets, node_meets, out_of_range, unmet};
 use crate::fault::DeclFault;
-use crate::flat::{Flat, read_flat};
 use crate::nodes::add_flat;
 use crate::reading::Reading;
 use crate::table::Finished;
 use crate::type_off::TypeOff;
+use block_reader::{Block, Flat, basic_of, read_flat};
 use decl_spelling::{FIRST_DESCRIPTOR, Mention};
 use file_parts::Parts;
 use std::alloc::AllocError;
@@ -252,11 +251,11 @@ impl<L: Ledger> Reading<'_, L> {
         requires room { HasRoom start end self.old.table.now }
         ensures exact { Resolves result (known self.new)
             (answered parts.now.version named
-            (with_shape parts.now.version start (flat_shape flat, end) (known self.old))) }
-        ensures adds { AddsOnly (left_closed_by parts.now.version (Ok (flat_shape flat, end)) (known self.old))
+            (with_shape parts.now.version start (flat_spelled flat, end) (known self.old))) }
+        ensures adds { AddsOnly (left_closed_by parts.now.version (Ok (flat_spelled flat, end)) (known self.old))
             self.old.arena.now self.new.arena.now }
         ensures outgrown { IsErrOf result DeclFault.Nodes → Outgrows self.old.arena.now
-            (left_closed_by parts.now.version (Ok (flat_shape flat, end)) (known self.old)) }
+            (left_closed_by parts.now.version (Ok (flat_spelled flat, end)) (known self.old)) }
         ensures finished { OnOk result
             (IsFinished (sections_of parts.now) (known self.old) (known self.new) self.old.table.now self.new.table.now
             named end) }

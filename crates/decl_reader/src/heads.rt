@@ -8,11 +8,11 @@ ghost use Rattle.decl_spelling.specs.Heads.{pass_line, pass_position, pass_times
 ghost use Rattle.decl_spelling.specs.Heads.{name_at, find_base, base_of, type_by, lead_at, lead_of, pass_tparams};
 ghost use Rattle.decl_spelling.specs.Heads.{head_lead};
 ghost use Rattle.position_codec.specs.Place.{is_odd};
-ghost use Rattle.decl_reader.specs.Calls.{sections_of};
+ghost use Rattle.block_reader.specs.Calls.{sections_of};
 ghost use Rattle.decl_reader.specs.Leads.{Finds, Passes, lead};
 
-use crate::codes::{basic_of, decl_tag_of, type_tag_of};
 use crate::type_off::TypeOff;
+use block_reader::{basic_of, decl_tag_of, type_tag_of};
 use code_tables::{Basic, DeclTag, TypeTag};
 use file_parts::Parts;
 use wire_bytes::{Cursor, text_at};

@@ -1,16 +1,13 @@
 //! Reads a declaration of a full file, or names the first fault of its bytes. The bytes of a declaration, and of each
-//! descriptor of a type, are read by themselves first, with types as numbers. docs/FORMAT.md has the rules in words,
-//! `decl_spelling` has them as definitions.
+//! descriptor of a type, are read by themselves first, with types as numbers (`block_reader`). docs/FORMAT.md has the
+//! rules in words, `decl_spelling` has them as definitions.
 #![tactic(auto)]
 
 mod basics;
-mod block;
-mod codes;
 mod declaration;
 mod demands;
 mod descent;
 mod fault;
-mod flat;
 mod heads;
 mod nodes;
 mod reading;

@@ -1,7 +1,6 @@
 -- The readers of numbers, flags, texts, paths, positions and types.
-use Rattle.std.proofs.Common.{◌≡◌, ℕ, ◌<◌, ◌≤◌, List, [], ◌∷◌, ◌++◌, length, Result, Ok, Err, refl, sym, ap, subst, ◌∙◌, append_assoc, arith, length-append}
+use Rattle.std.proofs.Common.{Some, ◌≡◌, ℕ, ◌<◌, ◌≤◌, List, [], ◌∷◌, ◌++◌, length, Result, Ok, Err, refl, sym, ap, subst, ◌∙◌, append_assoc, arith, length-append}
 use Rattle.std.proofs.lemmas.List.{append-nil}
-use Rattle.go_values.specs.declared.positions.Pos.{Pos}
 use Rattle.wire_bytes.specs.declared.fault.ByteFault.{ByteFault}
 use Rattle.wire_bytes.specs.declared.fault.ByteFault.TheVariants as faults
 use Rattle.wire_bytes.specs.Reading.{Spot, place, onward, ◌>>=◌}
@@ -13,18 +12,19 @@ use Rattle.wire_bytes.proofs.Spellings.{IsBytes}
 use Rattle.wire_bytes.proofs.TextLemmas.{text_takes, text_again}
 use Rattle.wire_bytes.proofs.ManyLemmas.{Takes}
 use Rattle.wire_bytes.proofs.CursorLemmas.{uvarint_at_takes, uvarint_at_again}
-use Rattle.position_codec.specs.Place.{Named, pos_of, moved_on}
+use Rattle.position_codec.specs.Place.{Named, moved_on}
 use Rattle.position_codec.specs.Position.{position_at}
 use Rattle.file_parts.specs.Paths.{IsPathAt, path_in}
 use Rattle.position_codec.proofs.PositionLemmas.{position_again}
 use Rattle.file_parts.proofs.PathLemmas.{path_again, path_takes}
 use Rattle.decl_spelling.specs.declared.mention.Demand.{Demand}
 use Rattle.decl_spelling.specs.Sections.{Sections}
-use Rattle.decl_spelling.specs.Reading.{Ahead, Stopped, onto, plain, placed, number_at, truth_at, text_at, path_at, pos_at, type_at}
-use Rattle.decl_spelling.specs.Grammar.{Here, IsNumber, IsTruth, IsText, IsPath, IsPos}
+use Rattle.decl_spelling.specs.Spelled.{SpelledText, SpelledPath, SpelledPos, SpelledType, without_pos}
+use Rattle.decl_spelling.specs.Reading.{Ahead, Stopped, onto, plain, pos_after, placed, number_at, truth_at, text_at, path_at, pos_at, type_at}
+use Rattle.decl_spelling.specs.Grammar.{Here, IsNumber, IsTruth, IsText, IsPath, IsPos, IsType}
 use Rattle.decl_spelling.specs.Asks.{unplaced}
 use Rattle.decl_spelling.proofs.Took.{Fits}
-use Rattle.decl_spelling.proofs.Readers.{Answered, Reads, nothing, give, give_reads, judged_reads}
+use Rattle.decl_spelling.proofs.Readers.{Answered, Reads, Stays, nothing, give, give_reads, judged_reads}
 use Rattle.decl_spelling.proofs.ValueTakes.{flag_takes, flag_again, position_takes}
 
 -- what stands in front of a window's bytes and of what follows the window, if it doesn't take from what follows
@@ -88,19 +88,33 @@ truth_reads = plain_reads flag_at Flag (λ given. flag_takes) flag_again
 
 pub text_reads : (src : Sections) → Reads (IsBytes src.strings) (text_at src) (IsText src) nothing
 unfolding text_at
-text_reads src = judged_reads number_at (λ a offset. faults.Range (place a.spot) offset) (text_in src.strings) give IsNumber (λ text a x b. (x ≡ text) × (b ≡ a)) nothing (IsText src)
-    number_reads (give_reads (IsBytes src.strings))
-    (λ bytes a offset b text x c number there stays.
-    (offset, subst (IsNumber a offset) (sym stays.1) number, subst (Text src.strings offset) (sym stays.0) (text_takes src.strings offset text bytes there)))
-    (λ a text b stands. record { x = stands.0; v = text; next = b; first = stands.1; judged = text_again src.strings stands.0 text stands.2; second = (refl, refl) })
+text_reads src = judged_reads number_at (λ a offset. faults.Range (place a.spot) offset) (text_in src.strings) (λ offset text. give (at_offset offset text)) IsNumber (λ offset text. Stays (at_offset offset text)) nothing (IsText src)
+    number_reads (λ offset text. give_reads (IsBytes src.strings) (at_offset offset text))
+    (λ bytes a offset b text x c number there stays. (
+      offset,
+      ap (λ (x : SpelledText). x.offset) stays.0,
+      subst (IsNumber a offset) (sym stays.1) number,
+      subst (λ (x : SpelledText). Text src.strings offset x.text) (sym stays.0) (text_takes src.strings offset text bytes there),
+    ))
+    (λ a x b stands. record { x = stands.0; v = x.text; next = b; first = stands.2; judged = text_again src.strings stands.0 x.text stands.3; second = ((λ i. record { offset = stands.1 i; text = x.text }), refl) })
+  where
+    at_offset : ℕ → List ℕ → SpelledText
+    at_offset offset text = record { offset = Some offset; text = text }
 
 pub path_reads : (src : Sections) → Reads (IsBytes src.strings) (path_at src) (IsPath src) nothing
 unfolding path_at
-path_reads src = judged_reads number_at (λ a offset. faults.Range (place a.spot) offset) (path_in src.strings src.own src.paths) give IsNumber (λ path a x b. (x ≡ path) × (b ≡ a)) nothing (IsPath src)
-    number_reads (give_reads (IsBytes src.strings))
-    (λ bytes a offset b path x c number there stays.
-    (offset, subst (IsNumber a offset) (sym stays.1) number, subst (IsPathAt src.strings src.own src.paths offset) (sym stays.0) (path_takes src.strings src.own src.paths offset path bytes there)))
-    (λ a path b stands. record { x = stands.0; v = path; next = b; first = stands.1; judged = path_again src.strings src.own src.paths stands.0 path stands.2; second = (refl, refl) })
+path_reads src = judged_reads number_at (λ a offset. faults.Range (place a.spot) offset) (path_in src.strings src.own src.paths) (λ offset path. give (at_offset offset path)) IsNumber (λ offset path. Stays (at_offset offset path)) nothing (IsPath src)
+    number_reads (λ offset path. give_reads (IsBytes src.strings) (at_offset offset path))
+    (λ bytes a offset b path x c number there stays. (
+      offset,
+      ap (λ (x : SpelledPath). x.offset) stays.0,
+      subst (IsNumber a offset) (sym stays.1) number,
+      subst (λ (x : SpelledPath). IsPathAt src.strings src.own src.paths offset x.path) (sym stays.0) (path_takes src.strings src.own src.paths offset path bytes there),
+    ))
+    (λ a x b stands. record { x = stands.0; v = x.path; next = b; first = stands.2; judged = path_again src.strings src.own src.paths stands.0 x.path stands.3; second = ((λ i. record { offset = stands.1 i; path = x.path }), refl) })
+  where
+    at_offset : ℕ → List ℕ → SpelledPath
+    at_offset offset path = record { offset = Some offset; path = path }
 
 -- ---- positions
 
@@ -110,8 +124,8 @@ pos_reads src = record {
   again = λ a tail x after w le.
       let s = split_tail w.1.0 after.left a.spot.left tail w.1.2 le in
       let b : Ahead = record { spot = onward a.spot s.0; before = moved_on a.before w.0; mentions = a.mentions } in
-      let read : pos_at src a ≡ Ok (pos_of w.0.place, b) = ap (placed a) (position_again src.strings a.before.place a.spot w.1.0 s.0 w.0 w.1.1 s.2) in
-      (b, read ∙ ap (λ (p : Pos). Ok (p, b)) (sym w.3), λ i. record { left = s.1 i; before = w.2 i });
+      let read : pos_at src a ≡ Ok (pos_after a.before w.0, b) = ap (placed a) (position_again src.strings a.before.place a.spot w.1.0 s.0 w.0 w.1.1 s.2) in
+      (b, read ∙ ap (λ (p : SpelledPos). Ok (p, b)) (sym w.3), λ i. record { left = s.1 i; before = w.2 i });
   shrinks = λ a x b w. omega (arith, ap (λ (bytes : List ℕ). length bytes) w.1.2, length-append w.1.0 b.left);
 }
   where
@@ -139,25 +153,27 @@ takes_some [] n spelled = elim spelled.groups [ ]
 takes_some (b ∷ front) n spelled = omega arith
 
 -- the number with its mention
-abbrev logged : Demand → Ahead → ℕ × Ahead → Result (ℕ × Ahead) Stopped
-logged asked a x = Ok (x.0, record { spot = (x.1).spot; before = a.before; mentions = a.mentions ++ record { at = place a.spot; value = x.0; asked = asked } ∷ [] })
+abbrev logged : Demand → Ahead → ℕ × Ahead → Result (SpelledType × Ahead) Stopped
+logged asked a x = Ok (without_pos x.0, record { spot = (x.1).spot; before = a.before; mentions = a.mentions ++ record { at = place a.spot; value = x.0; asked = asked } ∷ [] })
 
-pub type_reads : {Given : Type 0} (asked : Demand) → Reads Given (type_at asked) IsNumber (λ n. (n, unplaced asked) ∷ [])
+pub type_reads : {Given : Type 0} (asked : Demand) → Reads Given (type_at asked) IsType (λ t. (t.number, unplaced asked) ∷ [])
 unfolding type_at
 type_reads asked = record {
   takes = λ given a fits. by a fits (uvarint_at a.spot) refl;
-  again = λ a tail n after w le.
-      let number = (number_reads {Given = Unit {0}}).again a tail n after w le in
+  again = λ a tail t after w le.
+      let number = (number_reads {Given = Unit {0}}).again a tail t.number after w.0 le in
       let left = ap (λ (h : Here). h.left) number.2 in
-      (record { spot = number.0.spot; before = a.before; mentions = a.mentions ++ record { at = place a.spot; value = n; asked = asked } ∷ [] }, rw number.1 refl, λ i. record { left = left i; before = w.1 i });
-  shrinks = (number_reads {Given = Unit {0}}).shrinks;
+      let b : Ahead = record { spot = number.0.spot; before = a.before; mentions = a.mentions ++ record { at = place a.spot; value = t.number; asked = asked } ∷ [] } in
+      let none : without_pos t.number ≡ t = λ i. record { number = t.number; pos = sym w.1 i } in
+      (b, rw number.1 (ap (λ (t : SpelledType). Ok (t, b)) none), λ i. record { left = left i; before = w.0.1 i });
+  shrinks = λ a t b w. (number_reads {Given = Unit {0}}).shrinks a t.number b w.0;
 }
   where
-    by : (a : Ahead) → Fits a → (r : Result (ℕ × Spot) ByteFault) → uvarint_at a.spot ≡ r → Answered IsNumber (λ n. (n, unplaced asked) ∷ []) a (plain a r >>= logged asked a)
+    by : (a : Ahead) → Fits a → (r : Result (ℕ × Spot) ByteFault) → uvarint_at a.spot ≡ r → Answered IsType (λ t. (t.number, unplaced asked) ∷ []) a (plain a r >>= logged asked a)
     by a fits (Ok y) e =
         let t = uvarint_at_takes a.spot y.0 y.1 fits.bytes e in
         record {
-          stands = λ tail. ((t.stands.0, t.stands.1, ap (λ (bytes : List ℕ). bytes ++ tail) t.stands.2 ∙ append_assoc t.stands.0 y.1.left tail), refl);
+          stands = λ tail. (((t.stands.0, t.stands.1, ap (λ (bytes : List ℕ). bytes ++ tail) t.stands.2 ∙ append_assoc t.stands.0 y.1.left tail), refl), refl);
           went = record {
             added = record { at = place a.spot; value = y.0; asked = asked } ∷ [];
             mentions = refl;

@@ -4,15 +4,15 @@ use Rattle.std.specs.List.{AllByRecursion}
 use Rattle.std.proofs.lemmas.Bool.Decides.{eqb_tells}
 use Rattle.std.proofs.lemmas.List.Elements.{recursion_from_All}
 use Rattle.wire_bytes.proofs.Spellings.{IsBytes}
-use Rattle.go_values.specs.declared.positions.Pos.{Pos}
-use Rattle.type_terms.specs.Shapes.{Shape, shape_types, retype}
+use Rattle.type_terms.specs.Shapes.{shape_types, retype}
 use Rattle.type_terms.specs.ShapeLaws.{shape_types_map, retype_agrees}
-use Rattle.type_terms.specs.Trees.{Text, Level, tree_of}
+use Rattle.type_terms.specs.Trees.{Tree, tree_of}
 use Rattle.decl_spelling.specs.declared.mention.Mention.{Mention}
 use Rattle.decl_spelling.specs.Sections.{Sections, window}
+use Rattle.decl_spelling.specs.Spelled.{SpelledText, SpelledPath, SpelledPos, SpelledType, SpelledShape, meant}
 use Rattle.decl_spelling.specs.Reading.{Ahead, Stopped, start}
 use Rattle.decl_spelling.specs.Descriptors.{Flat, flat_at}
-use Rattle.decl_spelling.specs.Tables.{Finished, Table, at, with_block, free_to, type_named}
+use Rattle.decl_spelling.specs.Tables.{Finished, Table, at, with_block, free_to, type_named, type_spelled, tree_spelled}
 use Rattle.decl_spelling.specs.Descent.{ReadsBlock, resolve_all, finish, offset_of, block_at}
 use Rattle.decl_spelling.specs.Grammar.{Here, IsDescriptor}
 use Rattle.decl_spelling.specs.Spelling.{Block, Known, Names, Sound, Says, number_of}
@@ -36,11 +36,11 @@ all_asked P ms asks same all = subst (AllByRecursion (λ ask. P ask.0)) same (al
 left_length : (after : Here) (c : Ahead) (tail : List ℕ) → after ≡ seen_from c tail → length after.left ≡ length c.spot.left + length tail
 left_length after c tail is = ap (λ (a : Here). length a.left) is ∙ length-append c.spot.left tail
 
-finished_is : (end : ℕ) (b : Block) (read meant : Level) → end ≡ b.end → read ≡ meant → b.tree ≡ tree_of meant → record { end = end; tree = tree_of read } ≡ finished_of b
-finished_is end b read meant same_end same type = λ i. record { end = same_end i; tree = (ap tree_of same ∙ sym type) i }
+finished_is : (end : ℕ) (b : Block) (read said : SpelledShape Tree) → end ≡ b.end → read ≡ said → b.tree ≡ tree_of (meant said) → record { end = end; tree = tree_of (meant read) } ≡ finished_of b
+finished_is end b read said same_end same type = λ i. record { end = same_end i; tree = (ap (λ (level : SpelledShape Tree). tree_of (meant level)) same ∙ sym type) i }
 
 finish_done : (src : Sections) (read : ReadsBlock) (offset : ℕ) (r : Result (Flat × Ahead) Stopped) (x : Flat × Ahead) (done known : Table) → r ≡ Ok x → resolve_all src read offset (x.1).mentions done ≡ Ok known
-    → finish src read offset r done ≡ Ok (with_block known offset (record { end = offset_of src x.1; tree = tree_of (retype (type_named src.version known) x.0) }))
+    → finish src read offset r done ≡ Ok (with_block known offset (record { end = offset_of src x.1; tree = tree_spelled src.version known x.0 }))
 finish_done src read offset r x done known is resolved = rw (is, resolved) refl
 
 -- The bytes of a block were read in a window, to its end.
@@ -52,16 +52,17 @@ pub record Reread (src : Sections) (b : Block) (to : ℕ) (flat : Flat) : Type 0
 
 module _ (src : Sections) (strings : IsBytes src.strings) (bytes : IsBytes src.body) (all : List Block) (sound : Sound src all) where
   -- the types that are known are those that the relation names
-  trees_are : (known : Table) (holder : ℕ) (parts : Shape Pos Text Text Known) → Inside src all known → AllByRecursion (Names src all holder) (shape_types parts)
-      → AllByRecursion (λ ask. IsKnown src known holder ask.0) (shape_asks (retype number_of parts)) → retype (type_named src.version known) (retype number_of parts) ≡ retype (λ (x : Known). x.tree) parts
+  trees_are : (known : Table) (holder : ℕ) (parts : SpelledShape Known) → Inside src all known → AllByRecursion (Names src all holder) (shape_types parts)
+      → AllByRecursion (λ ask. IsKnown src known holder ask.0) (shape_asks (retype number_of parts)) → retype (type_spelled src.version known) (retype number_of parts) ≡ retype (λ (x : Known). x.tree) parts
   trees_are known holder parts inside named is =
-      let of_numbers : AllByRecursion (IsKnown src known holder) (shape_types (retype number_of parts)) = shape_all (λ ask. IsKnown src known holder ask.0) (IsKnown src known holder) (λ ask k. k) (retype number_of parts) is in
-      let types : shape_types (retype number_of parts) ≡ map number_of (shape_types parts) = shape_types_map (λ (x : Pos). x) (λ (x : Text). x) (λ (x : Text). x) number_of parts in
-      let of_types : AllByRecursion (λ (x : Known). IsKnown src known holder x.number) (shape_types parts) = all_unmap (IsKnown src known holder) number_of (shape_types parts) (subst (AllByRecursion (IsKnown src known holder)) types of_numbers) in
+      let of_numbers : AllByRecursion (λ (t : SpelledType). IsKnown src known holder t.number) (shape_types (retype number_of parts)) = shape_all (λ ask. IsKnown src known holder ask.0) (λ (t : SpelledType). IsKnown src known holder t.number) (λ t asked k. k) (retype number_of parts) is in
+      let types : shape_types (retype number_of parts) ≡ map number_of (shape_types parts) = shape_types_map (λ (x : SpelledPos). x) (λ (x : SpelledText). x) (λ (x : SpelledPath). x) number_of parts in
+      let of_types : AllByRecursion (λ (x : Known). IsKnown src known holder x.number) (shape_types parts) = all_unmap (λ (t : SpelledType). IsKnown src known holder t.number) number_of (shape_types parts) (subst (AllByRecursion (λ (t : SpelledType). IsKnown src known holder t.number)) types of_numbers) in
       let same : AllByRecursion (λ (x : Known). type_named src.version known x.number ≡ x.tree) (shape_types parts)
       = all_both (λ (x : Known). IsKnown src known holder x.number) (Names src all holder) (λ (x : Known). type_named src.version known x.number ≡ x.tree)
       (λ x is names. tree_is src all sound known holder x inside is names) (shape_types parts) of_types named in
-      retype_twice number_of (type_named src.version known) Pos Text Text parts ∙ retype_agrees (λ (x : Known). type_named src.version known x.number) (λ (x : Known). x.tree) Pos Text Text parts same
+      retype_twice number_of (type_spelled src.version known) SpelledPos SpelledText SpelledPath parts
+      ∙ retype_agrees (λ (x : Known). type_named src.version known x.number) (λ (x : Known). x.tree) SpelledPos SpelledText SpelledPath parts same
 
   -- the block with what is finished in reading it
   with_one : (b : Block) (fin : Finished) (known : Table) → Contains all b → fin ≡ finished_of b → Inside src all known
@@ -105,10 +106,10 @@ module _ (src : Sections) (strings : IsBytes src.strings) (bytes : IsBytes src.b
       let mentions = mentions_named src all b.start again.ahead.mentions (shape_asks flat) again.asked (shape_named src all b.start says.parts names says.generic) in
       let resolved = all_again src all sound read b.start reads again.ahead.mentions done mentions inside in
       let known = resolved.0 in
-      let fin : Finished = record { end = offset_of src again.ahead; tree = tree_of (retype (type_named src.version known) flat) } in
-      let trees : retype (type_named src.version known) flat ≡ retype (λ (x : Known). x.tree) says.parts
+      let fin : Finished = record { end = offset_of src again.ahead; tree = tree_spelled src.version known flat } in
+      let trees : retype (type_spelled src.version known) flat ≡ retype (λ (x : Known). x.tree) says.parts
       = trees_are known b.start says.parts resolved.2 names (all_asked (IsKnown src known b.start) again.ahead.mentions (shape_asks flat) again.asked resolved.4) in
-      let new = with_one b fin known has (finished_is (offset_of src again.ahead) b (retype (type_named src.version known) flat) (retype (λ (x : Known). x.tree) says.parts) again.end trees says.type) resolved.2 in (
+      let new = with_one b fin known has (finished_is (offset_of src again.ahead) b (retype (type_spelled src.version known) flat) (retype (λ (x : Known). x.tree) says.parts) again.end trees says.type) resolved.2 in (
         with_block known b.start fin,
         finish_done src read b.start (flat_at src (start (window src b.start to))) (flat, again.ahead) done known again.read resolved.1,
         new.0,

@@ -3,16 +3,13 @@ use Rattle.std.proofs.Common.{◌≡◌, ℕ, zero, suc, ◌+◌, ◌-◌, ◌<�
 use Rattle.wire_bytes.proofs.Steps.{bind_ok, done_is}
 use Rattle.wire_bytes.proofs.Spellings.{IsBytes}
 use Rattle.wire_bytes.proofs.TextLemmas.{IsBytes-drop}
-use Rattle.type_terms.specs.Shapes.{retype}
-use Rattle.type_terms.specs.Trees.{tree_of}
-use Rattle.position_codec.specs.Place.{no_place}
 use Rattle.decl_spelling.specs.Sections.{Sections, window}
 use Rattle.decl_spelling.specs.Reading.{Ahead, Stopped, start}
 use Rattle.decl_spelling.specs.Descriptors.{Flat, flat_at}
-use Rattle.decl_spelling.specs.Tables.{Finished, Table, at, with_block, free_to, type_named}
+use Rattle.decl_spelling.specs.Tables.{Finished, Table, at, with_block, free_to, tree_spelled}
 use Rattle.decl_spelling.specs.Descent.{ReadsBlock, resolve_all, finish, offset_of, block_at}
 use Rattle.decl_spelling.specs.Grammar.{Here, IsDescriptor}
-use Rattle.decl_spelling.specs.Spelling.{here}
+use Rattle.decl_spelling.specs.Spelling.{nowhere, here}
 use Rattle.decl_spelling.specs.Asks.{shape_asks}
 use Rattle.decl_spelling.proofs.Took.{Fits, seen_from}
 use Rattle.decl_spelling.proofs.FlatLaws.{flat_took}
@@ -27,7 +24,7 @@ window_fits src from to bytes = record { bytes = IsBytes-take (to - from) _ (IsB
 
 -- what stands from an offset on, as a window and what is behind it
 pub here_is : (src : Sections) (from to : ℕ) → seen_from (start (window src from to)) (behind src.body from to) ≡ here src from
-here_is src from to = ap (λ (bytes : List ℕ). record { left = bytes; before = no_place }) (part_behind src.body from to)
+here_is src from to = ap (λ (bytes : List ℕ). record { left = bytes; before = nowhere }) (part_behind src.body from to)
 
 -- where reading stopped in a window
 pub offset_is : (src : Sections) (a : Ahead) (to : ℕ) → a.spot.end ≡ src.body_at + to → length a.spot.left ≤ to → offset_of src a ≡ to - length a.spot.left
@@ -42,7 +39,7 @@ module _ (src : Sections) (strings : IsBytes src.strings) (bytes : IsBytes src.b
       absurd (let err = no.2 in cc)
   finish_takes read reads offset holder to done known free before within fine none (Ok x) e h =
       let flat = flat_took src strings (start (window src offset to)) (window_fits src offset to bytes) x.0 x.1 e in
-      let fin_of : Table → Finished = λ mid. record { end = offset_of src x.1; tree = tree_of (retype (type_named src.version mid) x.0) } in
+      let fin_of : Table → Finished = λ mid. record { end = offset_of src x.1; tree = tree_spelled src.version mid x.0 } in
       let resolved = bind_ok (resolve_all src read offset (x.1).mentions done) (λ mid. Ok (with_block mid offset (fin_of mid))) known h in
       let mid = resolved.0 in
       let types = all_known src read reads offset (omega arith) (x.1).mentions done mid fine resolved.1 in

@@ -4,8 +4,6 @@ use Rattle.std.proofs.lemmas.Bool.{ltb-true}
 use Rattle.wire_bytes.specs.declared.fault.ByteFault.{ByteFault}
 use Rattle.wire_bytes.specs.declared.fault.ByteFault.TheVariants as faults
 use Rattle.wire_bytes.specs.Reading.{◌>>=◌, demand}
-use Rattle.type_terms.specs.Shapes.{retype}
-use Rattle.type_terms.specs.Trees.{tree_of}
 use Rattle.decl_spelling.specs.declared.mention.Mention.{Mention}
 use Rattle.decl_spelling.specs.declared.mention.Demand.{Demand}
 use Rattle.decl_spelling.specs.declared.mention.Demand.TheVariants.{Any, Parameter, Underlying, Base, NoParameter, Interface}
@@ -13,7 +11,7 @@ use Rattle.decl_spelling.specs.Sections.{Sections, window}
 use Rattle.decl_spelling.specs.Codes.{basic_of}
 use Rattle.decl_spelling.specs.Reading.{Ahead, Stopped, start}
 use Rattle.decl_spelling.specs.Descriptors.{Flat, flat_at}
-use Rattle.decl_spelling.specs.Tables.{Finished, Table, at, free_to, type_named, with_block}
+use Rattle.decl_spelling.specs.Tables.{Finished, Table, at, free_to, type_named, tree_spelled, with_block}
 use Rattle.decl_spelling.specs.Descent.{ReadsBlock, meets, unmet, named_at, found_or_read, with_descriptor, with_basic, with_type, resolve, resolve_all, finish, block_at, offset_of}
 
 pub bind_same : {E A B : Type 0} (r : Result A E) (f g : A → Result B E) → ((x : A) → f x ≡ g x) → (r >>= f) ≡ (r >>= g)
@@ -45,7 +43,7 @@ module _ (src : Sections) (p q : ReadsBlock) (holder : ℕ) (agree : (offset : �
       ∙ bind_same (resolve src q holder m done) (resolve_all src p holder ms) (resolve_all src q holder ms) (resolve_all_same ms)
 
   finish_same : (x : Result (Flat × Ahead) Stopped) (done : Table) → finish src p holder x done ≡ finish src q holder x done
-  finish_same (Ok x) done = ap (λ (r : Result Table ByteFault). r >>= λ known. Ok (with_block known holder (record { end = offset_of src x.1; tree = tree_of (retype (type_named src.version known) x.0) }))) (resolve_all_same (x.1).mentions done)
+  finish_same (Ok x) done = ap (λ (r : Result Table ByteFault). r >>= λ known. Ok (with_block known holder (record { end = offset_of src x.1; tree = tree_spelled src.version known x.0 }))) (resolve_all_same (x.1).mentions done)
   finish_same (Err stopped) done = ap (λ (r : Result Table ByteFault). r >>= λ known. Err stopped.fault) (resolve_all_same stopped.mentions done)
 
 -- bounds above the offset give the same

@@ -9,24 +9,27 @@ use Rattle.wire_bytes.proofs.Spellings.{IsBytes}
 use Rattle.type_terms.specs.Declarations.{form_types, Decl, form_map}
 use Rattle.decl_spelling.specs.Sections.{Sections, Basics, window, HoldsBytes}
 use Rattle.decl_spelling.specs.Codes.{decl_tag_of}
-use Rattle.decl_spelling.specs.Reading.{start, Ahead}
+use Rattle.decl_spelling.specs.Spelled.{SpelledDecl, form_meant}
+use Rattle.decl_spelling.specs.Reading.{start, Ahead, Stopped}
 use Rattle.decl_spelling.specs.Tables.{Table, at}
 use Rattle.decl_spelling.specs.Descent.{block_at}
-use Rattle.decl_spelling.specs.Declarations.{head_at, Read, after_head, read_at, decl_of, decl_at, FirstFault, resolved, Head}
-use Rattle.decl_spelling.specs.Grammar.{Here}
-use Rattle.decl_spelling.specs.Spelling.{Block, Names, Sound, here, kind_of_decl, SpellsDecl, KnownForm, same_pos, same_text, Known}
+use Rattle.decl_spelling.specs.Declarations.{head_at, Read, after_head, read_at, decl_of, spelled_of, decl_at, FirstFault, resolved, Head}
+use Rattle.decl_spelling.specs.Descriptors.{Flat}
+use Rattle.decl_spelling.specs.Grammar.{Here, IsDescriptor}
+use Rattle.decl_spelling.specs.Spelling.{Block, Names, Sound, here, kind_of_decl, SpellsDecl, spelled_with, block_spelled, Says, KnownForm, same_pos, same_text, Known}
 use Rattle.decl_spelling.specs.Asks.{ask_of}
 use Rattle.decl_spelling.proofs.Took.{seen_from, IsHead, head_asks, Fits, unplaced_head}
-use Rattle.decl_spelling.proofs.FlatLaws.{head_took, head_again}
+use Rattle.decl_spelling.proofs.FlatLaws.{flat_again, head_took, head_again}
 use Rattle.decl_spelling.proofs.TableLaws.{finished_of, some_is}
 use Rattle.decl_spelling.specs.KnownTypes.{IsKnown}
 use Rattle.decl_spelling.proofs.KnownTypeLemmas.{names_more}
 use Rattle.decl_spelling.proofs.Windows.{behind, behind_length, byte_within}
 use Rattle.decl_spelling.proofs.AskLemmas.{asks_from}
+use Rattle.decl_spelling.proofs.NewBlocks.{block_some}
 use Rattle.decl_spelling.proofs.BlockTakes.{window_fits, here_is}
 use Rattle.decl_spelling.proofs.TypeAgain.{mentions_named, all_again}
 use Rattle.decl_spelling.proofs.BlockAgain.{all_asked, block_again}
-use Rattle.decl_spelling.proofs.DeclTakes.{blank, parts_at, decl_takes}
+use Rattle.decl_spelling.proofs.DeclTakes.{blank, parts_at, read_takes, decl_takes}
 use Rattle.decl_spelling.proofs.DeclarationHeads.{head_of, IsRest, head_stands, head_kind, head_named}
 use Rattle.decl_spelling.proofs.DeclAgain.{asks_unplaced, next_done, resolved_done, rest_read}
 
@@ -53,6 +56,7 @@ spells_more src basics offset decl spells all sound more = (
     blocks = all;
     sound = sound;
     parts = spells.parts;
+    value = spells.value;
     rest = spells.rest;
     after = spells.after;
     kind = spells.kind;
@@ -71,10 +75,10 @@ one_fault src basics offset a b first second = (cc)
 -- ---- declarations
 
 -- where the head of a declaration was read, with its types, and what it leads to
-read_done : (src : Sections) (basics : Basics) (offset : ℕ) (y : (Head × Ahead) × Table) (x : Read) (d e : Decl) → resolved src offset (head_at src (start (window src offset (length src.body)))) [] ≡ Ok y
-    → after_head src basics offset (y.0).0 (y.0).1 y.1 ≡ Ok x → decl_of src x ≡ e → d ≡ e → (x : Read) × (read_at src basics offset ≡ Ok x) × (decl_of src x ≡ d)
+read_done : (src : Sections) (basics : Basics) (offset : ℕ) (y : (Head × Ahead) × Table) (x : Read) (d e : Decl) (s : SpelledDecl) → resolved src offset (head_at src (start (window src offset (length src.body)))) [] ≡ Ok y
+    → after_head src basics offset (y.0).0 (y.0).1 y.1 ≡ Ok x → decl_of src x ≡ e → d ≡ e → spelled_of x ≡ s → (x : Read) × (read_at src basics offset ≡ Ok x) × (decl_of src x ≡ d) × (spelled_of x ≡ s)
 unfolding read_at
-read_done src basics offset y x d e first leads means meant = (x, next_done (resolved src offset (head_at src (start (window src offset (length src.body)))) []) (λ head. after_head src basics offset (head.0).0 (head.0).1 head.1) y x first leads, means ∙ sym meant)
+read_done src basics offset y x d e s first leads means said spelled = (x, next_done (resolved src offset (head_at src (start (window src offset (length src.body)))) []) (λ head. after_head src basics offset (head.0).0 (head.0).1 head.1) y x first leads, means ∙ sym said, spelled)
 
 -- The head of a declaration was read again, but for the place of a typeOff.
 record HeadAgain (src : Sections) (offset : ℕ) (parts : KnownForm) (after : Here) : Type 0 where
@@ -112,14 +116,14 @@ module _ (src : Sections) (basics : Basics) (holds : HoldsBytes src) where
       }
 
   -- what is spelled is read, in two parts
-  pub read_again : (offset : ℕ) (d : Decl) → SpellsDecl src basics offset d → (x : Read) × (read_at src basics offset ≡ Ok x) × (decl_of src x ≡ d)
+  pub read_again : (offset : ℕ) (d : Decl) (spells : SpellsDecl src basics offset d) → (x : Read) × (read_at src basics offset ≡ Ok x) × (decl_of src x ≡ d) × (spelled_of x ≡ spelled_with spells)
   read_again offset d spells =
       let parts = spells.parts in
       let blocks = spells.blocks in
       let kind = kind_of_decl parts in
       let tail = behind src.body offset (length src.body) in
       let within : offset ≤ length src.body = byte_within src.body offset (decl_tag_code kind) spells.rest spells.kind in
-      let two = head_stands src basics (parts_at spells.rest) parts spells.after spells.stands in
+      let two = head_stands src basics (parts_at spells.rest) parts spells.value spells.after spells.stands in
       let stands : IsHead src (here src offset) (head_of parts) two.0
       = record {
         rest = spells.rest;
@@ -129,14 +133,15 @@ module _ (src : Sections) (basics : Basics) (holds : HoldsBytes src) where
       } in
       let again = head_reread offset within parts two.0 stands in
       let names = recursion_from_All (Names src blocks offset) (form_types parts) spells.named in
-      let nameable = mentions_named src blocks offset again.ahead.mentions (head_asks (head_of parts)) again.asked (head_named src blocks offset basics (parts_at spells.rest) parts spells.after spells.stands names) in
+      let nameable = mentions_named src blocks offset again.ahead.mentions (head_asks (head_of parts)) again.asked (head_named src blocks offset basics (parts_at spells.rest) parts spells.value spells.after spells.stands names) in
       let reads = block_again src (strings_are src holds) (body_is src holds) blocks spells.sound offset offset (omega arith) within in
       let types = all_again src blocks spells.sound (block_at src offset) offset reads again.ahead.mentions [] nameable tt in
       let is = all_asked (IsKnown src types.0 offset) again.ahead.mentions (head_asks (head_of parts)) again.asked types.4 in
-      let rest : IsRest src basics (seen_from again.ahead tail) parts spells.after = subst (λ (a : Here). IsRest src basics a parts spells.after) again.left two.2 in
-      let last = rest_read src basics (strings_are src holds) (body_is src holds) blocks spells.sound offset within tail (no_tail offset within) (blank again.ahead) refl again.fits types.0 types.2 parts again.head spells.after again.same rest names is in
+      let rest : IsRest src basics (seen_from again.ahead tail) parts spells.value spells.after = subst (λ (a : Here). IsRest src basics a parts spells.value spells.after) again.left two.2 in
+      let last = rest_read src basics (strings_are src holds) (body_is src holds) blocks spells.sound offset within tail (no_tail offset within) (blank again.ahead) refl again.fits types.0 types.2 parts spells.value again.head spells.after again.same rest names is in
       let first = resolved_done src offset (head_at src (start (window src offset (length src.body)))) (again.head, again.ahead) [] types.0 again.read types.1 in
-      read_done src basics offset ((again.head, blank again.ahead), types.0) last.0 d (form_map same_pos same_text (λ (t : Known). t.tree) parts) first last.1 last.2 spells.meant
+      read_done src basics offset ((again.head, blank again.ahead), types.0) last.0 d (form_meant (form_map same_pos same_text (λ (t : Known). t.tree) parts)) (spelled_with spells) first last.1 (ap form_meant last.2) spells.meant
+      (λ i. record { form = last.3 i; value = last.4 i })
 
   pub decl_again : (offset : ℕ) (d : Decl) → SpellsDecl src basics offset d → decl_at src basics offset ≡ Ok d
   decl_again offset d spells =
@@ -145,6 +150,17 @@ module _ (src : Sections) (basics : Basics) (holds : HoldsBytes src) where
 
   pub one_decl : (offset : ℕ) (a b : Decl) → SpellsDecl src basics offset a → SpellsDecl src basics offset b → a ≡ b
   one_decl offset a b first second = done_is a b (sym (decl_again offset a first) ∙ decl_again offset b second)
+
+  -- and what it is spelled with
+  pub one_spelling : (offset : ℕ) (a b : Decl) (first : SpellsDecl src basics offset a) (second : SpellsDecl src basics offset b) → spelled_with first ≡ spelled_with second
+  one_spelling offset a b first second =
+      let x = read_again offset a first in
+      let y = read_again offset b second in
+      sym x.3 ∙ ap spelled_of (done_is x.0 y.0 (sym x.1 ∙ y.1)) ∙ y.3
+
+  -- What was read is spelled, with the same parts.
+  pub read_found : (offset : ℕ) (x : Read) → read_at src basics offset ≡ Ok x → (spells : SpellsDecl src basics offset (decl_of src x)) × (spelled_with spells ≡ spelled_of x)
+  read_found = read_takes src basics (strings_are src holds) (body_is src holds)
 
   pub decl_found : (offset : ℕ) (d : Decl) → decl_at src basics offset ≡ Ok d → SpellsDecl src basics offset d
   decl_found = decl_takes src basics (strings_are src holds) (body_is src holds)
@@ -160,6 +176,10 @@ module _ (src : Sections) (basics : Basics) (holds : HoldsBytes src) where
   never_both offset d f spells fault = let found = decl_again offset d spells in cc
 
 -- ---- descriptors
+
+abbrev read_or : {X : Type 0} → X → Result X Stopped → X
+read_or x (Ok y) = y
+read_or x (Err stopped) = x
 
 module _ (src : Sections) (holds : HoldsBytes src) where
   -- a block is read by itself, up to the end of the data
@@ -181,3 +201,17 @@ module _ (src : Sections) (holds : HoldsBytes src) where
       let here_too : at second.0 a.start ≡ Some (finished_of a) = ap (λ (t : Table). at t a.start) (sym tables) ∙ first.2 in
       let finished : finished_of a ≡ finished_of b = some_is (finished_of a) (finished_of b) (at second.0 a.start) here_too there in
       λ i. record { start = same i; end = (finished i).end; tree = (finished i).tree }
+
+  -- and are spelled with the same
+  pub one_block : (some all : List Block) (a b : Block) (first : Says src some a) (second : Says src all b) → a.start ≡ b.start → block_spelled first ≡ block_spelled second
+  one_block some all a b first second same =
+      let to = length src.body in
+      let tail = behind src.body b.start to in
+      let s = start (window src b.start to) in
+      let within : b.start ≤ to = omega (arith, block_some src all b second, second.ends) in
+      let none : length tail ≡ 0 = omega (arith, behind_length src.body b.start to within (omega arith)) in
+      let here_b : seen_from s tail ≡ here src b.start = here_is src b.start to in
+      let here_a : seen_from s tail ≡ here src a.start = here_b ∙ ap (here src) (sym same) in
+      let x = flat_again src s tail (block_spelled first) first.after (subst (λ (a : Here). IsDescriptor src a (block_spelled first) first.after) (sym here_a) first.stands) (omega arith) in
+      let y = flat_again src s tail (block_spelled second) second.after (subst (λ (a : Here). IsDescriptor src a (block_spelled second) second.after) (sym here_b) second.stands) (omega arith) in
+      ap (λ (z : Flat × Ahead). z.0) (ap (read_or (block_spelled first, x.0)) (sym x.1 ∙ y.1))

@@ -2,26 +2,25 @@
 use Rattle.std.proofs.Common.{◌≡◌, ℕ, ◌≤◌, List, [], ◌∷◌, length, drop, map, All, Bool, true, false, Result, Ok, Err, Option, Some, None, refl, sym, ◌∙◌, ap, subst}
 use Rattle.std.specs.List.{flat_map, AllByRecursion}
 use Rattle.std.proofs.lemmas.List.Elements.{All-from_recursion}
-use Rattle.go_values.specs.declared.positions.Pos.{Pos}
 use Rattle.code_tables.specs.declared.predeclared.Basic.{Basic}
 use Rattle.code_tables.specs.DeclTag.{decl_tag_code}
 use Rattle.wire_bytes.specs.Reading.{place, ◌>>=◌}
 use Rattle.wire_bytes.proofs.Steps.{bind_ok, done_is}
 use Rattle.wire_bytes.proofs.Spellings.{IsBytes}
-use Rattle.position_codec.specs.Place.{no_place}
 use Rattle.type_terms.specs.Replaced.{all_left, all_right, all_append}
-use Rattle.type_terms.specs.Trees.{Text, Tree}
+use Rattle.type_terms.specs.Trees.{Tree}
 use Rattle.type_terms.specs.Declarations.{constant_of, defined_of, receiver_types, form_types, Decl}
 use Rattle.decl_spelling.specs.declared.mention.Demand.TheVariants.{Any, Parameter, Underlying}
 use Rattle.decl_spelling.specs.Sections.{Sections, Basics, window}
+use Rattle.decl_spelling.specs.Spelled.{SpelledText, SpelledPos, SpelledType, form_meant}
 use Rattle.decl_spelling.specs.Codes.{decl_tag_of}
 use Rattle.decl_spelling.specs.Reading.{Ahead, Stopped, start, list_at}
-use Rattle.decl_spelling.specs.Tables.{Table, type_named}
+use Rattle.decl_spelling.specs.Tables.{Table, type_named, type_spelled}
 use Rattle.decl_spelling.specs.Descent.{meets, resolve_all, block_at}
 use Rattle.decl_spelling.specs.Constants.{Spelling, Kind, spelled, floating, none, kind_of, basic_type, spelling_by, spelling_at, value_at}
-use Rattle.decl_spelling.specs.Declarations.{FlatForm, Receiver, Head, whole, of_type, of_constant, head_at, receiver_at, resolved, has_methods, Read, read, methods_of, after_type, fault_alone, after_constant, after_head, read_at, decl_of, decl_at}
+use Rattle.decl_spelling.specs.Declarations.{FlatForm, Receiver, Head, whole, of_type, of_constant, head_at, receiver_at, resolved, has_methods, Read, read, methods_of, after_type, fault_alone, after_constant, after_head, read_at, decl_of, spelled_of, decl_at}
 use Rattle.decl_spelling.specs.Grammar.{Here}
-use Rattle.decl_spelling.specs.Spelling.{Known, Names, here, IsMethods, IsValue, IsForm, SpellsDecl}
+use Rattle.decl_spelling.specs.Spelling.{Known, Names, nowhere, here, number_of, same_pos, same_text, IsMethods, IsValue, IsForm, SpellsDecl, spelled_with}
 use Rattle.decl_spelling.specs.Asks.{Ask, asking}
 use Rattle.decl_spelling.proofs.Took.{Fits, seen_from, IsHead, IsHeadParts, kind_of_head, head_asks, IsValueOf}
 use Rattle.decl_spelling.proofs.ValueReaders.{kind_spelling}
@@ -30,7 +29,7 @@ use Rattle.decl_spelling.proofs.TableLaws.{blocks_of, has_none}
 use Rattle.decl_spelling.specs.KnownTypes.{Kept}
 use Rattle.decl_spelling.proofs.KnownTypeLemmas.{known_named, known_still, named_still}
 use Rattle.decl_spelling.proofs.Windows.{behind, byte_within}
-use Rattle.decl_spelling.proofs.RetypeLemmas.{form_twice}
+use Rattle.decl_spelling.proofs.RetypeLemmas.{form_twice, form_same}
 use Rattle.decl_spelling.proofs.AskLemmas.{IsMet, asks_from, mentions_met}
 use Rattle.decl_spelling.proofs.TypeTakes.{Fine, all_known}
 use Rattle.decl_spelling.proofs.MapLemmas.{all_weaker, all_map}
@@ -76,6 +75,10 @@ all_meets src done holder = all_weaker (IsMet src done holder) (Meets (type_name
 pub fine_none : (src : Sections) → Fine src []
 fine_none src = record { rising = tt; sound = record { each = λ b has. absurd (has_none b has); apart = λ a b has_a has_b. absurd (has_none a has_a) } }
 
+-- what was read is spelled, with the same parts
+abbrev pub Spells : Sections → Basics → ℕ → Read → Type 0
+Spells src basics offset x = (spells : SpellsDecl src basics offset (decl_of src x)) × (spelled_with spells ≡ spelled_of x)
+
 -- ---- a declaration that was read, and its types
 
 -- the byte of the kind, and what is left behind it
@@ -83,42 +86,45 @@ abbrev pub IsBegun : Sections → ℕ → List ℕ → Head → Type 0
 IsBegun src offset rest head = (drop offset src.body ≡ decl_tag_code (kind_of_head head) ∷ rest) × (decl_tag_of src.version (decl_tag_code (kind_of_head head)) ≡ Some (kind_of_head head))
 
 abbrev pub parts_at : List ℕ → Here
-parts_at rest = record { left = rest; before = no_place }
+parts_at rest = record { left = rest; before = nowhere }
 
 module _ (src : Sections) (basics : Basics) (offset : ℕ) (done : Table) (fine : Fine src done) (rest : List ℕ) where
   abbrev types : ℕ → Tree
   types = type_named src.version done
 
-  pub spells : (form : FlatForm) (end : ℕ) (after : Here) → IsBegun src offset rest (whole form) → IsForm src basics (parts_at rest) (with_types types form) after → AllByRecursion (IsMet src done offset) (form_asks form)
-      → SpellsDecl src basics offset (decl_of src (record { form = form; end = end; table = done }))
-  spells form end after begins stands met =
+  pub spells : (form : FlatForm) (value : Option ℕ) (end : ℕ) (after : Here) → IsBegun src offset rest (whole form) → IsForm src basics (parts_at rest) (with_types types form) value after → AllByRecursion (IsMet src done offset) (form_asks form)
+      → Spells src basics offset (record { form = form; value = value; end = end; table = done })
+  spells form value end after begins stands met =
       let each : AllByRecursion (λ n. Names src (blocks_of done) offset (with_tree types n)) (form_types form)
-      = form_all (IsMet src done offset) (λ n. Names src (blocks_of done) offset (with_tree types n)) (λ ask known. known_named src done offset ask.0 known.0) form met in
-      record {
-        blocks = blocks_of done;
-        sound = fine.sound;
-        parts = with_types types form;
-        rest = rest;
-        after = after;
-        kind = begins.0 ∙ ap (λ kind. decl_tag_code kind ∷ rest) (sym (kind_same types form));
-        known = subst (λ kind. decl_tag_of src.version (decl_tag_code kind) ≡ Some kind) (sym (kind_same types form)) begins.1;
-        stands = stands;
-        named = subst (λ (xs : List Known). All (Names src (blocks_of done) offset) xs) (sym (form_types_map (with_tree types) form))
-            (All-from_recursion (Names src (blocks_of done) offset) (map (with_tree types) (form_types form)) (all_map (Names src (blocks_of done) offset) (with_tree types) (form_types form) each));
-        meant = sym (form_twice (with_tree types) (λ (x : Known). x.tree) Pos Text form);
-      }
+      = form_all (IsMet src done offset) (λ n. Names src (blocks_of done) offset (with_tree types n)) (λ t asked known. known_named src done offset t known.0) form met in (
+        record {
+          blocks = blocks_of done;
+          sound = fine.sound;
+          parts = with_types types form;
+          value = value;
+          rest = rest;
+          after = after;
+          kind = begins.0 ∙ ap (λ kind. decl_tag_code kind ∷ rest) (sym (kind_same types form));
+          known = subst (λ kind. decl_tag_of src.version (decl_tag_code kind) ≡ Some kind) (sym (kind_same types form)) begins.1;
+          stands = stands;
+          named = subst (λ (xs : List Known). All (Names src (blocks_of done) offset) xs) (sym (form_types_map same_pos same_text (with_tree types) form))
+              (All-from_recursion (Names src (blocks_of done) offset) (map (with_tree types) (form_types form)) (all_map (Names src (blocks_of done) offset) (with_tree types) (form_types form) each));
+          meant = ap form_meant (sym (form_twice (with_tree types) (λ (x : Known). x.tree) SpelledPos SpelledText form));
+        },
+        λ i. record { form = (form_twice (with_tree types) number_of SpelledPos SpelledText form ∙ form_same SpelledPos SpelledText form) i; value = value },
+      )
 
-  pub read_spells : (form : FlatForm) (a : Ahead) (after : Here) (x : Read) → IsBegun src offset rest (whole form) → IsForm src basics (parts_at rest) (with_types types form) after → AllByRecursion (IsMet src done offset) (form_asks form) → read form a done ≡ Ok x
-      → SpellsDecl src basics offset (decl_of src x)
-  read_spells form a after x begins stands met e =
-      subst (λ (x : Read). SpellsDecl src basics offset (decl_of src x)) (done_is (record { form = form; end = place a.spot; table = done }) x e) (spells form (place a.spot) after begins stands met)
+  pub read_spells : (form : FlatForm) (value : Option ℕ) (a : Ahead) (after : Here) (x : Read) → IsBegun src offset rest (whole form) → IsForm src basics (parts_at rest) (with_types types form) value after → AllByRecursion (IsMet src done offset) (form_asks form) → read form value a done ≡ Ok x
+      → Spells src basics offset x
+  read_spells form value a after x begins stands met e =
+      subst (Spells src basics offset) (done_is (record { form = form; value = value; end = place a.spot; table = done }) x e) (spells form value (place a.spot) after begins stands met)
 
   -- a defined type
-  pub defined_stands : (pos : Pos) (tparams : List ℕ) (underlying : ℕ) (methods : List Receiver) (b after : Here) → IsHeadParts src (parts_at rest) (of_type pos tparams underlying) b
-      → AllByRecursion (Meets types) (head_asks (of_type pos tparams underlying)) → IsMethods src (has_methods (types underlying)) b methods after
-      → IsForm src basics (parts_at rest) (with_types types (defined_of pos tparams underlying methods)) after
+  pub defined_stands : (pos : SpelledPos) (tparams : List SpelledType) (underlying : SpelledType) (methods : List Receiver) (b after : Here) → IsHeadParts src (parts_at rest) (of_type pos tparams underlying) b
+      → AllByRecursion (Meets types) (head_asks (of_type pos tparams underlying)) → IsMethods src (has_methods (types underlying.number)) b methods after
+      → IsForm src basics (parts_at rest) (with_types types (defined_of pos tparams underlying methods)) None after
   defined_stands pos tparams underlying methods b after parts met own =
-      let behind : List Ask = (underlying, Underlying) ∷ [] in (
+      let behind : List Ask = (underlying.number, Underlying) ∷ [] in (
         parts.0,
         parts.1,
         b,
@@ -126,23 +132,24 @@ module _ (src : Sections) (basics : Basics) (offset : ℕ) (done : Table) (fine 
         generic_list types parts.0 tparams parts.1 parts.3 (all_left (Meets types) (asking Parameter tparams) behind met),
         parts.4,
         (all_right (Meets types) (asking Parameter tparams) behind met).0,
-        subst (λ (xs : List Receiver). IsMethods src (has_methods (types underlying)) b xs after) (sym (receivers_numbers types methods)) own,
+        subst (λ (xs : List Receiver). IsMethods src (has_methods (types underlying.number)) b xs after) (sym (receivers_numbers types methods)) own,
+        refl,
       )
 
-  defined_asks : (pos : Pos) (tparams : List ℕ) (underlying : ℕ) (methods : List Receiver) → AllByRecursion (IsMet src done offset) (head_asks (of_type pos tparams underlying))
+  defined_asks : (pos : SpelledPos) (tparams : List SpelledType) (underlying : SpelledType) (methods : List Receiver) → AllByRecursion (IsMet src done offset) (head_asks (of_type pos tparams underlying))
       → AllByRecursion (IsMet src done offset) (asking Any (flat_map receiver_types methods)) → AllByRecursion (IsMet src done offset) (form_asks (defined_of pos tparams underlying methods))
   defined_asks pos tparams underlying methods head own =
-      let behind : List Ask = (underlying, Underlying) ∷ [] in
-      let all : List Ask = (underlying, Underlying) ∷ asking Any (flat_map receiver_types methods) in
+      let behind : List Ask = (underlying.number, Underlying) ∷ [] in
+      let all : List Ask = (underlying.number, Underlying) ∷ asking Any (flat_map receiver_types methods) in
       all_append (IsMet src done offset) (asking Parameter tparams) all (all_left (IsMet src done offset) (asking Parameter tparams) behind head) ((all_right (IsMet src done offset) (asking Parameter tparams) behind head).0, own)
 
 -- ---- a declaration that is read
 
 module _ (src : Sections) (basics : Basics) (strings : IsBytes src.strings) (bytes : IsBytes src.body) where
   module _ (offset : ℕ) (within : offset ≤ length src.body) (rest tail : List ℕ) (a : Ahead) (no_mentions : a.mentions ≡ []) (fits : Fits a) where
-    methods_taken : (pos : Pos) (tparams : List ℕ) (underlying : ℕ) (done : Table) (x : Read) → Fine src done → IsBegun src offset rest (of_type pos tparams underlying)
+    methods_taken : (pos : SpelledPos) (tparams : List SpelledType) (underlying : SpelledType) (done : Table) (x : Read) → Fine src done → IsBegun src offset rest (of_type pos tparams underlying)
         → IsHeadParts src (parts_at rest) (of_type pos tparams underlying) (seen_from a tail) → AllByRecursion (IsMet src done offset) (head_asks (of_type pos tparams underlying))
-        → has_methods (type_named src.version done underlying) ≡ true → after_type src offset pos tparams underlying a done true ≡ Ok x → SpellsDecl src basics offset (decl_of src x)
+        → has_methods (type_spelled src.version done underlying) ≡ true → after_type src offset pos tparams underlying a done true ≡ Ok x → Spells src basics offset x
     methods_taken pos tparams underlying done x fine begins parts met own e =
         let both = bind_ok (resolved src offset (list_at (receiver_at src) a) done) (methods_of pos tparams underlying) x e in
         let y = both.0 in
@@ -155,58 +162,58 @@ module _ (src : Sections) (basics : Basics) (strings : IsBytes src.strings) (byt
         let own_met = mentions_met src y.1 offset b.mentions (asking Any (flat_map receiver_types methods)) asked types.1 in
         let head_met = met_still src done y.1 offset (head_asks (of_type pos tparams underlying)) types.0.kept met in
         let types_met = all_meets src y.1 offset (head_asks (of_type pos tparams underlying)) head_met in
-        let underlying_met = (all_right (IsMet src done offset) (asking Parameter tparams) ((underlying, Underlying) ∷ []) met).0 in
-        let still : has_methods (type_named src.version y.1 underlying) ≡ true = ap has_methods (named_still src done y.1 offset underlying types.0.kept underlying_met.0) ∙ own in
-        let stands : IsMethods src (has_methods (type_named src.version y.1 underlying)) (seen_from a tail) methods (seen_from b tail)
+        let underlying_met = (all_right (IsMet src done offset) (asking Parameter tparams) ((underlying.number, Underlying) ∷ []) met).0 in
+        let still : has_methods (type_spelled src.version y.1 underlying) ≡ true = ap has_methods (named_still src done y.1 offset underlying.number types.0.kept underlying_met.0) ∙ own in
+        let stands : IsMethods src (has_methods (type_spelled src.version y.1 underlying)) (seen_from a tail) methods (seen_from b tail)
         = subst (λ (c : Bool). IsMethods src c (seen_from a tail) methods (seen_from b tail)) (sym still) (taken.stands tail) in
         let form : FlatForm = defined_of pos tparams underlying methods in
         let spelled_so = defined_stands src basics offset y.1 types.0.fine rest pos tparams underlying methods (seen_from a tail) (seen_from b tail) parts types_met stands in
         let asks_met = defined_asks src basics offset y.1 types.0.fine rest pos tparams underlying methods head_met own_met in
         let same : (methods, blank b) ≡ y.0 = list.3 in
-        read_spells src basics offset y.1 types.0.fine rest form (blank b) (seen_from b tail) x begins spelled_so asks_met
-        (ap (λ (z : List Receiver × Ahead). read (defined_of pos tparams underlying z.0) z.1 y.1) same ∙ both.2)
+        read_spells src basics offset y.1 types.0.fine rest form None (blank b) (seen_from b tail) x begins spelled_so asks_met
+        (ap (λ (z : List Receiver × Ahead). read (defined_of pos tparams underlying z.0) None z.1 y.1) same ∙ both.2)
 
-    no_methods_taken : (pos : Pos) (tparams : List ℕ) (underlying : ℕ) (done : Table) (x : Read) → Fine src done → IsBegun src offset rest (of_type pos tparams underlying)
+    no_methods_taken : (pos : SpelledPos) (tparams : List SpelledType) (underlying : SpelledType) (done : Table) (x : Read) → Fine src done → IsBegun src offset rest (of_type pos tparams underlying)
         → IsHeadParts src (parts_at rest) (of_type pos tparams underlying) (seen_from a tail) → AllByRecursion (IsMet src done offset) (head_asks (of_type pos tparams underlying))
-        → has_methods (type_named src.version done underlying) ≡ false → after_type src offset pos tparams underlying a done false ≡ Ok x → SpellsDecl src basics offset (decl_of src x)
+        → has_methods (type_spelled src.version done underlying) ≡ false → after_type src offset pos tparams underlying a done false ≡ Ok x → Spells src basics offset x
     no_methods_taken pos tparams underlying done x fine begins parts met own e =
-        let stands : IsMethods src (has_methods (type_named src.version done underlying)) (seen_from a tail) [] (seen_from a tail)
+        let stands : IsMethods src (has_methods (type_spelled src.version done underlying)) (seen_from a tail) [] (seen_from a tail)
         = subst (λ (c : Bool). IsMethods src c (seen_from a tail) [] (seen_from a tail)) (sym own) (refl, refl) in
         let types_met = all_meets src done offset (head_asks (of_type pos tparams underlying)) met in
-        read_spells src basics offset done fine rest (defined_of pos tparams underlying []) a (seen_from a tail) x begins
+        read_spells src basics offset done fine rest (defined_of pos tparams underlying []) None a (seen_from a tail) x begins
         (defined_stands src basics offset done fine rest pos tparams underlying [] (seen_from a tail) (seen_from a tail) parts types_met stands)
         (defined_asks src basics offset done fine rest pos tparams underlying [] met tt) e
 
-    constant_taken : (pos : Pos) (type at : ℕ) (done : Table) (x : Read) → Fine src done → IsBegun src offset rest (of_constant pos type at)
+    constant_taken : (pos : SpelledPos) (type : SpelledType) (at : ℕ) (done : Table) (x : Read) → Fine src done → IsBegun src offset rest (of_constant pos type at)
         → IsHeadParts src (parts_at rest) (of_constant pos type at) (seen_from a tail) → AllByRecursion (IsMet src done offset) (head_asks (of_constant pos type at))
-        → after_constant src basics pos type at a done ≡ Ok x → SpellsDecl src basics offset (decl_of src x)
+        → after_constant src basics pos type at a done ≡ Ok x → Spells src basics offset x
     constant_taken pos type at done x fine begins parts met e =
-        let tree = type_named src.version done type in
-        let chosen = bind_ok (spelling_at at (basic_type basics tree)) (λ spelling. fault_alone (value_at src spelling a) >>= λ value. read (constant_of pos type value.0) value.1 done) x e in
-        let valued = bind_ok (fault_alone (value_at src chosen.0 a)) (λ value. read (constant_of pos type value.0) value.1 done) x chosen.2 in
+        let tree = type_spelled src.version done type in
+        let chosen = bind_ok (spelling_at at (basic_type basics tree)) (λ spelling. fault_alone (value_at src spelling a) >>= λ value. read (constant_of pos type (value.0).value) (value.0).offset value.1 done) x e in
+        let valued = bind_ok (fault_alone (value_at src chosen.0 a)) (λ value. read (constant_of pos type (value.0).value) (value.0).offset value.1 done) x chosen.2 in
         let basic = spelling_ok at (basic_type basics tree) chosen.0 chosen.1 in
         let taken = value_took src chosen.0 (kind_spelling basic.0 chosen.0 basic.2) strings a fits valued.0.0 valued.0.1 (fault_ok (value_at src chosen.0 a) valued.0 valued.1) in
         let stands : IsValueOf src chosen.0 (seen_from a tail) valued.0.0 (seen_from valued.0.1 tail) = taken.stands tail in
         let value : IsValue src basics tree (seen_from a tail) valued.0.0 (seen_from valued.0.1 tail)
         = record { basic = basic.0; spelling = chosen.0; at_value = stands.0; its_basic = basic.1; its_spelling = basic.2; kind = stands.1; spelled_value = stands.2 } in
-        read_spells src basics offset done fine rest (constant_of pos type valued.0.0) valued.0.1 (seen_from valued.0.1 tail) x begins (parts.0, seen_from a tail, parts.1, parts.2, value) met valued.2
+        read_spells src basics offset done fine rest (constant_of pos type (valued.0.0).value) (valued.0.0).offset valued.0.1 (seen_from valued.0.1 tail) x begins (parts.0, seen_from a tail, parts.1, parts.2, value) met valued.2
 
-    type_taken : (pos : Pos) (tparams : List ℕ) (underlying : ℕ) (done : Table) (x : Read) → Fine src done → IsBegun src offset rest (of_type pos tparams underlying)
+    type_taken : (pos : SpelledPos) (tparams : List SpelledType) (underlying : SpelledType) (done : Table) (x : Read) → Fine src done → IsBegun src offset rest (of_type pos tparams underlying)
         → IsHeadParts src (parts_at rest) (of_type pos tparams underlying) (seen_from a tail) → AllByRecursion (IsMet src done offset) (head_asks (of_type pos tparams underlying))
-        → (own : Bool) → has_methods (type_named src.version done underlying) ≡ own → after_type src offset pos tparams underlying a done own ≡ Ok x → SpellsDecl src basics offset (decl_of src x)
+        → (own : Bool) → has_methods (type_spelled src.version done underlying) ≡ own → after_type src offset pos tparams underlying a done own ≡ Ok x → Spells src basics offset x
     type_taken pos tparams underlying done x fine begins parts met true own e = methods_taken pos tparams underlying done x fine begins parts met own e
     type_taken pos tparams underlying done x fine begins parts met false own e = no_methods_taken pos tparams underlying done x fine begins parts met own e
 
     after_taken : (head : Head) (done : Table) (x : Read) → Fine src done → IsBegun src offset rest head → IsHeadParts src (parts_at rest) head (seen_from a tail) → AllByRecursion (IsMet src done offset) (head_asks head)
-        → after_head src basics offset head a done ≡ Ok x → SpellsDecl src basics offset (decl_of src x)
+        → after_head src basics offset head a done ≡ Ok x → Spells src basics offset x
     after_taken (whole form) done x fine begins parts met e =
-        read_spells src basics offset done fine rest form a (seen_from a tail) x begins
+        read_spells src basics offset done fine rest form None a (seen_from a tail) x begins
         (form_stands (type_named src.version done) src basics (parts_at rest) form (seen_from a tail) parts (all_meets src done offset (head_asks (whole form)) met))
-        (whole_asks (IsMet src done offset) (λ n. Unit {0}) (λ ask met. tt) src (parts_at rest) form (seen_from a tail) parts met) e
-    after_taken (of_type pos tparams underlying) done x fine begins parts met e = type_taken pos tparams underlying done x fine begins parts met (has_methods (type_named src.version done underlying)) refl e
+        (whole_asks (IsMet src done offset) (λ n. Unit {0}) (λ t asked met. tt) src (parts_at rest) form (seen_from a tail) parts met) e
+    after_taken (of_type pos tparams underlying) done x fine begins parts met e = type_taken pos tparams underlying done x fine begins parts met (has_methods (type_spelled src.version done underlying)) refl e
     after_taken (of_constant pos type at) done x fine begins parts met e = constant_taken pos type at done x fine begins parts met e
 
-  pub read_takes : (offset : ℕ) (x : Read) → read_at src basics offset ≡ Ok x → SpellsDecl src basics offset (decl_of src x)
+  pub read_takes : (offset : ℕ) (x : Read) → read_at src basics offset ≡ Ok x → Spells src basics offset x
   unfolding read_at
   read_takes offset x e =
       let to = length src.body in
@@ -229,4 +236,4 @@ module _ (src : Sections) (basics : Basics) (strings : IsBytes src.strings) (byt
   pub decl_takes : (offset : ℕ) (d : Decl) → decl_at src basics offset ≡ Ok d → SpellsDecl src basics offset d
   decl_takes offset d e =
       let both = bind_ok (read_at src basics offset) (λ x. Ok (decl_of src x)) d e in
-      subst (SpellsDecl src basics offset) (done_is (decl_of src both.0) d both.2) (read_takes offset both.0 both.1)
+      subst (SpellsDecl src basics offset) (done_is (decl_of src both.0) d both.2) (read_takes offset both.0 both.1).0

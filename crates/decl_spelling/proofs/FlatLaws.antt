@@ -1,9 +1,8 @@
 -- The laws of the readers of a block's own bytes, each for a descriptor, the head of a declaration, a list of methods and the value
 -- of a constant.
-use Rattle.std.proofs.Common.{◌≡◌, ℕ, ◌+◌, ◌≤◌, List, [], ◌∷◌, ◌++◌, length, map, Ok, Err, refl, ap, ◌∙◌, arith, length-append}
+use Rattle.std.proofs.Common.{◌≡◌, ℕ, ◌+◌, ◌≤◌, List, [], ◌∷◌, ◌++◌, length, map, Ok, Err, refl, sym, ap, ◌∙◌, arith, length-append}
 use Rattle.std.specs.List.{flat_map}
 use Rattle.std.proofs.lemmas.List.{map-append}
-use Rattle.go_values.specs.declared.constants.Const.{Const}
 use Rattle.wire_bytes.specs.Reading.{Spot}
 use Rattle.wire_bytes.proofs.Spellings.{IsBytes}
 use Rattle.type_terms.specs.Shapes.{predeclared_of, named_of, parameter_of, alias_of, pointer_of, slice_of, array_of, chan_of, map_of, func_of, struct_of, interface_of, instance_of, union_of, sig_types}
@@ -11,6 +10,7 @@ use Rattle.decl_spelling.specs.declared.mention.Mention.{Mention}
 use Rattle.decl_spelling.specs.declared.mention.Demand.{Demand}
 use Rattle.decl_spelling.specs.declared.mention.Demand.TheVariants.{Any}
 use Rattle.decl_spelling.specs.Sections.{Sections}
+use Rattle.decl_spelling.specs.Spelled.{SpelledType, SpelledConst}
 use Rattle.decl_spelling.specs.Reading.{Ahead, Stopped, start, list_at}
 use Rattle.decl_spelling.specs.Descriptors.{Flat, flat_at}
 use Rattle.decl_spelling.specs.Constants.{Spelling, value_at}
@@ -53,16 +53,16 @@ module _ (src : Sections) (bytes : IsBytes src.strings) (a : Ahead) (fits : Fits
   receivers_few s e = few (IsList (IsReceiver src)) (λ xs. asking Any (flat_map types_of_receiver xs)) a (list_at (receiver_at src) a) s ((receivers_reads src).takes bytes a fits) e
 
 module _ (src : Sections) (spelling : Spelling) (is : IsSpelling spelling) where
-  pub value_took : IsBytes src.strings → (a : Ahead) → Fits a → (x : Const) (b : Ahead) → value_at src spelling a ≡ Ok (x, b) → Took (IsValueOf src spelling) (λ x. []) a x b
+  pub value_took : IsBytes src.strings → (a : Ahead) → Fits a → (x : SpelledConst) (b : Ahead) → value_at src spelling a ≡ Ok (x, b) → Took (IsValueOf src spelling) (λ x. []) a x b
   value_took bytes a fits x b e = took (IsValueOf src spelling) nothing a (value_at src spelling a) x b ((value_reads src spelling is).takes bytes a fits) e
 
   pub value_few : IsBytes src.strings → (a : Ahead) → Fits a → (s : Stopped) → value_at src spelling a ≡ Err s → Few a s
   value_few bytes a fits s e = few (IsValueOf src spelling) nothing a (value_at src spelling a) s ((value_reads src spelling is).takes bytes a fits) e
 
-  pub value_again : (a : Ahead) (tail : List ℕ) (x : Const) (after : Here) → IsValueOf src spelling (seen_from a tail) x after → length tail ≤ length after.left → Again (value_at src spelling) a x tail after
+  pub value_again : (a : Ahead) (tail : List ℕ) (x : SpelledConst) (after : Here) → IsValueOf src spelling (seen_from a tail) x after → length tail ≤ length after.left → Again (value_at src spelling) a x tail after
   value_again = (value_reads src spelling is).again
 
-  pub value_shrinks : (a : Here) (x : Const) (b : Here) → IsValueOf src spelling a x b → length b.left ≤ length a.left
+  pub value_shrinks : (a : Here) (x : SpelledConst) (b : Here) → IsValueOf src spelling a x b → length b.left ≤ length a.left
   value_shrinks = (value_reads src spelling is).shrinks
 
 -- ---- what stands there is read
@@ -106,15 +106,18 @@ numbers_of (m ∷ ms) = ap (λ (xs : List ℕ). m.value ∷ xs) (numbers_of ms)
 pub values_are : (a : Ahead) (asks : List Ask) (b : Ahead) (went : Went a asks b) → map (λ m. m.value) went.added ≡ numbers_asked asks
 values_are a asks b went = numbers_of went.added ∙ ap numbers_asked went.asked
 
-pub asking_types : (asked : Demand) (types : List ℕ) → numbers_asked (asking asked types) ≡ types
+abbrev pub numbers_in : List SpelledType → List ℕ
+numbers_in types = map (λ type. type.number) types
+
+pub asking_types : (asked : Demand) (types : List SpelledType) → numbers_asked (asking asked types) ≡ numbers_in types
 asking_types asked [] = refl
-asking_types asked (type ∷ types) = ap (λ (xs : List ℕ). type ∷ xs) (asking_types asked types)
+asking_types asked (type ∷ types) = ap (λ (xs : List ℕ). type.number ∷ xs) (asking_types asked types)
 
 pub numbers-append : (xs ys : List Ask) → numbers_asked (xs ++ ys) ≡ numbers_asked xs ++ numbers_asked ys
 numbers-append xs ys = map-append (λ k. k.0) xs ys
 
 -- a descriptor names the types that stand in it, in order
-pub shape_asks_types : (x : Flat) → numbers_asked (shape_asks x) ≡ flat_types x
+pub shape_asks_types : (x : Flat) → numbers_asked (shape_asks x) ≡ numbers_in (flat_types x)
 shape_asks_types (predeclared_of basic) = refl
 shape_asks_types (named_of name path) = refl
 shape_asks_types (parameter_of name path) = refl
@@ -127,5 +130,6 @@ shape_asks_types (map_of key type) = refl
 shape_asks_types (func_of home sig) = asking_types Any (sig_types sig)
 shape_asks_types (struct_of home fields) = asking_types Any (flat_types (struct_of home fields))
 shape_asks_types (interface_of home embedded methods) = asking_types Any (flat_types (interface_of home embedded methods))
-shape_asks_types (instance_of base args) = numbers-append (asking Any args) _ ∙ ap (λ (xs : List ℕ). xs ++ base ∷ []) (asking_types Any args)
+shape_asks_types (instance_of base args) =
+    numbers-append (asking Any args) _ ∙ ap (λ (xs : List ℕ). xs ++ base.number ∷ []) (asking_types Any args) ∙ sym (map-append (λ (type : SpelledType). type.number) args (base ∷ []))
 shape_asks_types (union_of terms) = asking_types Any (flat_types (union_of terms))

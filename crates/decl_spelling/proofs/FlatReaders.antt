@@ -1,41 +1,40 @@
 -- The readers of the parts of descriptors.
-use Rattle.std.proofs.Common.{◌≡◌, ℕ, Bool, false, List, [], ◌∷◌, ◌++◌, refl, sym, ◌∙◌}
+use Rattle.std.proofs.Common.{◌≡◌, Bool, false, List, [], ◌∷◌, ◌++◌, refl, sym, ◌∙◌}
 use Rattle.std.specs.List.{flat_map}
 use Rattle.std.proofs.lemmas.List.{append-nil}
 use Rattle.std.proofs.lemmas.List.Concat.{flat_map_single}
-use Rattle.go_values.specs.declared.positions.Pos.{Pos}
 use Rattle.wire_bytes.proofs.Spellings.{IsBytes}
-use Rattle.type_terms.specs.Trees.{Text}
-use Rattle.type_terms.specs.Shapes.{FieldOf, MethodOf, TermOf, param_types, sig_types, field_types, method_types, term_types}
+use Rattle.type_terms.specs.Shapes.{param_types, sig_types, field_types, method_types, term_types}
 use Rattle.decl_spelling.specs.declared.mention.Demand.TheVariants.{Any}
 use Rattle.decl_spelling.specs.Sections.{Sections}
+use Rattle.decl_spelling.specs.Spelled.{SpelledText, SpelledPos, SpelledType, without_pos, with_pos, no_origin}
 use Rattle.decl_spelling.specs.Reading.{truth_at, text_at, pos_at, type_at, list_at}
-use Rattle.decl_spelling.specs.Descriptors.{Param, Sig, param_at, variadic_at, sig_at, no_origin, field_at, method_at, embedded_at, term_at}
-use Rattle.decl_spelling.specs.Grammar.{IsNumber, IsTruth, IsText, IsPos, IsList, IsParam, IsVariadic, IsSig, IsField, IsMethod, IsEmbedded, IsTerm}
+use Rattle.decl_spelling.specs.Descriptors.{Param, Sig, Field, Method, Term, param_at, variadic_at, sig_at, field_at, method_at, embedded_at, term_at}
+use Rattle.decl_spelling.specs.Grammar.{IsTruth, IsText, IsPos, IsType, IsList, IsParam, IsVariadic, IsSig, IsField, IsMethod, IsEmbedded, IsTerm}
 use Rattle.decl_spelling.specs.Asks.{Ask, asking}
-use Rattle.decl_spelling.proofs.Readers.{Reads, nothing, give_reads, as_reads, two_reads, bind_reads}
+use Rattle.decl_spelling.proofs.Readers.{Reads, nothing, give_reads, as_reads, two_reads}
 use Rattle.decl_spelling.proofs.ReaderSteps.{three_reads, five_reads}
 use Rattle.decl_spelling.proofs.BaseReaders.{truth_reads, text_reads, pos_reads, type_reads}
 use Rattle.decl_spelling.proofs.ListReaders.{asking-append, asking-flat, list_reads}
 
-abbrev pub any_type : ℕ → List Ask
-any_type type = (type, Any) ∷ []
+abbrev pub any_type : SpelledType → List Ask
+any_type type = (type.number, Any) ∷ []
 
 -- ---- parameters
 
-abbrev pub make_param : Pos → Text → ℕ → Param
+abbrev pub make_param : SpelledPos → SpelledText → SpelledType → Param
 make_param pos name type = record { pos = pos; name = name; type = type }
 
 abbrev pub param_asks : Param → List Ask
-param_asks x = (x.type, Any) ∷ []
+param_asks x = (x.type.number, Any) ∷ []
 
-abbrev pub types_of_param : Param → List ℕ
+abbrev pub types_of_param : Param → List SpelledType
 types_of_param x = param_types x
 
 pub param_reads : (src : Sections) → Reads (IsBytes src.strings) (param_at src) (IsParam src) param_asks
 unfolding param_at
 param_reads src =
-    three_reads (pos_at src) (text_at src) (λ pos b name. type_at Any) (IsPos src) (IsText src) (λ pos name. IsNumber) nothing nothing (λ pos name. any_type) make_param (IsParam src) param_asks
+    three_reads (pos_at src) (text_at src) (λ pos b name. type_at Any) (IsPos src) (IsText src) (λ pos name. IsType) nothing nothing (λ pos name. any_type) make_param (IsParam src) param_asks
     (pos_reads src) (text_reads src) (λ pos b name. type_reads Any) (λ pos name type. refl)
     (λ a pos b name c type d first second third. record { at_name = b; at_type = c; pos = first; name = second; type = third })
     (λ a x b w. record { x = x.pos; y = x.name; z = x.type; at_y = w.at_name; at_z = w.at_type; first = w.pos; second = w.name; third = w.type; made = refl })
@@ -66,25 +65,19 @@ sig_reads src =
 
 -- ---- fields, methods, embedded types and terms
 
-abbrev pub Field : Type 0
-Field = FieldOf Pos Text Text ℕ
-
-abbrev pub Method : Type 0
-Method = MethodOf Pos Text Text ℕ
-
-abbrev make_field : Pos → Text → ℕ → Bool → Text → Field
+abbrev make_field : SpelledPos → SpelledText → SpelledType → Bool → SpelledText → Field
 make_field pos name type embedded tag = record { origin = no_origin; pos = pos; name = name; type = type; embedded = embedded; tag = tag }
 
 abbrev pub field_asks : Field → List Ask
-field_asks x = (x.type, Any) ∷ []
+field_asks x = (x.type.number, Any) ∷ []
 
-abbrev pub types_of_field : Field → List ℕ
+abbrev pub types_of_field : Field → List SpelledType
 types_of_field x = field_types x
 
 pub field_reads : (src : Sections) → Reads (IsBytes src.strings) (field_at src) (IsField src) field_asks
 unfolding field_at
 field_reads src =
-    five_reads (pos_at src) (text_at src) (type_at Any) truth_at (text_at src) (IsPos src) (IsText src) IsNumber IsTruth (IsText src) nothing nothing any_type nothing nothing make_field (IsField src) field_asks
+    five_reads (pos_at src) (text_at src) (type_at Any) truth_at (text_at src) (IsPos src) (IsText src) IsType IsTruth (IsText src) nothing nothing any_type nothing nothing make_field (IsField src) field_asks
     (pos_reads src) (text_reads src) (type_reads Any) truth_reads (text_reads src) (λ pos name type embedded tag. refl)
     (λ a pos b name c type d embedded e tag f first second third fourth fifth.
     record { at_name = b; at_type = c; at_embedded = d; at_tag = e; origin = refl; pos = first; name = second; type = third; embedded = fourth; tag = fifth })
@@ -109,13 +102,13 @@ field_reads src =
 pub fields_ask : (xs : List Field) → flat_map field_asks xs ≡ asking Any (flat_map types_of_field xs)
 fields_ask xs = asking-flat Any types_of_field xs
 
-abbrev make_method : Pos → Text → Sig → Method
+abbrev make_method : SpelledPos → SpelledText → Sig → Method
 make_method pos name sig = record { origin = no_origin; pos = pos; name = name; sig = sig }
 
 abbrev pub method_asks : Method → List Ask
 method_asks x = sig_asks x.sig
 
-abbrev pub types_of_method : Method → List ℕ
+abbrev pub types_of_method : Method → List SpelledType
 types_of_method x = method_types x
 
 pub method_reads : (src : Sections) → Reads (IsBytes src.strings) (method_at src) (IsMethod src) method_asks
@@ -142,28 +135,28 @@ methods_ask xs = asking-flat Any types_of_method xs
 pub embedded_reads : (src : Sections) → Reads (IsBytes src.strings) (embedded_at src) (IsEmbedded src) any_type
 unfolding embedded_at
 embedded_reads src =
-    bind_reads (pos_at src) (λ pos. type_at Any) (IsPos src) (λ pos. IsNumber) any_type (IsEmbedded src) (pos_reads src) (λ pos. type_reads Any)
-    (λ a pos b type c first second. (pos, b, first, second))
-    (λ a type b w. record { x = w.0; next = w.1; first = w.2; second = w.3 })
+    two_reads (pos_at src) (type_at Any) (IsPos src) IsType nothing any_type with_pos (IsEmbedded src) any_type (pos_reads src) (type_reads Any) (λ pos type. refl)
+    (λ a pos b type c first second. (pos, refl, b, first, second.0))
+    (λ a x b w. record { x = w.0; y = without_pos x.number; at_y = w.2; first = w.3; second = (w.4, refl); made = λ i. record { number = x.number; pos = w.1 i } })
 
-pub singles_ask : (xs : List ℕ) → flat_map any_type xs ≡ asking Any xs
-singles_ask xs = flat_map_single (λ type. (type, Any)) xs
+pub singles_ask : (xs : List SpelledType) → flat_map any_type xs ≡ asking Any xs
+singles_ask xs = flat_map_single (λ type. (type.number, Any)) xs
 
-abbrev make_term : Bool → ℕ → TermOf ℕ
+abbrev make_term : Bool → SpelledType → Term
 make_term tilde type = record { tilde = tilde; type = type }
 
-abbrev pub term_asks : TermOf ℕ → List Ask
-term_asks x = (x.type, Any) ∷ []
+abbrev pub term_asks : Term → List Ask
+term_asks x = (x.type.number, Any) ∷ []
 
-abbrev pub types_of_term : TermOf ℕ → List ℕ
+abbrev pub types_of_term : Term → List SpelledType
 types_of_term x = term_types x
 
 pub term_reads : {Given : Type 0} → Reads Given term_at IsTerm term_asks
 unfolding term_at
 term_reads =
-    two_reads truth_at (type_at Any) IsTruth IsNumber nothing any_type make_term IsTerm term_asks truth_reads (type_reads Any) (λ tilde type. refl)
+    two_reads truth_at (type_at Any) IsTruth IsType nothing any_type make_term IsTerm term_asks truth_reads (type_reads Any) (λ tilde type. refl)
     (λ a tilde b type c first second. (b, first, second))
     (λ a x b w. record { x = x.tilde; y = x.type; at_y = w.0; first = w.1; second = w.2; made = refl })
 
-pub terms_ask : (xs : List (TermOf ℕ)) → flat_map term_asks xs ≡ asking Any (flat_map types_of_term xs)
+pub terms_ask : (xs : List Term) → flat_map term_asks xs ≡ asking Any (flat_map types_of_term xs)
 terms_ask xs = asking-flat Any types_of_term xs

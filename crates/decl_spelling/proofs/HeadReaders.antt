@@ -2,7 +2,6 @@
 use Rattle.std.proofs.Common.{◌≡◌, ℕ, ◌≤◌, Bool, true, false, List, [], ◌∷◌, ◌++◌, length, Some, Ok, refl, sym, ap, subst, ◌∙◌, arith}
 use Rattle.std.specs.List.{flat_map}
 use Rattle.std.proofs.lemmas.List.Concat.{flat_map_single}
-use Rattle.go_values.specs.declared.positions.Pos.{Pos}
 use Rattle.code_tables.specs.declared.declarations.DeclTag.{DeclTag}
 use Rattle.code_tables.specs.declared.declarations.DeclTag.TheVariants.{Var, Func, GenericFunc, Const as ConstTag, Defined, GenericDefined, Alias, GenericAlias, TypeParameter}
 use Rattle.code_tables.specs.DeclTag.{decl_tag_code}
@@ -11,37 +10,37 @@ use Rattle.wire_bytes.specs.Reading.{place, ◌>>=◌, byte_at}
 use Rattle.wire_bytes.specs.Begins.{Begins}
 use Rattle.wire_bytes.proofs.Spellings.{IsBytes}
 use Rattle.wire_bytes.proofs.CursorLemmas.{byte_at_takes, byte_at_again}
-use Rattle.type_terms.specs.Trees.{Text}
 use Rattle.type_terms.specs.Declarations.{var_of, function_of, constant_of, defined_of, renamed_of, type_parameter_of, receiver_types}
 use Rattle.decl_spelling.specs.declared.mention.Demand.{Demand}
 use Rattle.decl_spelling.specs.declared.mention.Demand.TheVariants.{Any, Parameter, Underlying, NoParameter}
 use Rattle.decl_spelling.specs.Sections.{Sections}
 use Rattle.decl_spelling.specs.Codes.{decl_tag_of}
+use Rattle.decl_spelling.specs.Spelled.{SpelledText, SpelledPos, SpelledType}
 use Rattle.decl_spelling.specs.Reading.{Ahead, Reader, or_stop, plain, truth_at, text_at, pos_at, type_at, list_at}
 use Rattle.decl_spelling.specs.Descriptors.{Param, Sig, param_at, sig_at}
 use Rattle.decl_spelling.specs.Declarations.{Receiver, Head, whole, of_type, of_constant, tparams_at, var_at, func_decl_at, generic_func_at, constant_at, defined_at, generic_defined_at, alias_at, generic_alias_at, constraint_demand, parameter_at, head_by, head_at, receiver_at}
-use Rattle.decl_spelling.specs.Grammar.{Here, IsNumber, IsTruth, IsText, IsPos, IsList, IsParam, IsSig}
+use Rattle.decl_spelling.specs.Grammar.{Here, IsTruth, IsText, IsPos, IsType, IsList, IsParam, IsSig}
 use Rattle.decl_spelling.specs.Spelling.{IsReceiver}
 use Rattle.decl_spelling.specs.Asks.{Ask, asking, unplaced}
 use Rattle.decl_spelling.proofs.Took.{seen_from, Fits, Again, IsHeadParts, kind_of_head, IsHead, head_asks, unplaced_head}
 use Rattle.decl_spelling.proofs.Readers.{went_nowhere, went_on, Answered, Reads, nothing, ask_reads, then_answers, judged_answers, onward_answers, two_reads}
 use Rattle.decl_spelling.proofs.ReaderSteps.{three_reads, three_reads_where, four_reads}
-use Rattle.decl_spelling.proofs.BaseReaders.{plain_reads, number_reads, truth_reads, text_reads, pos_reads, type_reads}
+use Rattle.decl_spelling.proofs.BaseReaders.{plain_reads, truth_reads, text_reads, pos_reads, type_reads}
 use Rattle.decl_spelling.proofs.ListReaders.{IsSome, some_reads, list_reads, asking-flat}
 use Rattle.decl_spelling.proofs.CodeLaws.{decl_tag_of_takes}
 use Rattle.decl_spelling.proofs.FlatReaders.{any_type, param_asks, param_reads, sig_asks, sig_reads}
 
 -- the parts of a head of this kind
 abbrev pub IsHeadOf : Sections → DeclTag → Here → Head → Here → Type 0
-IsHeadOf src Var a x b = (pos : Pos) × (type : ℕ) × (x ≡ whole (var_of pos type)) × IsHeadParts src a (whole (var_of pos type)) b
-IsHeadOf src Func a x b = (pos : Pos) × (sig : Sig) × (x ≡ whole (function_of pos [] sig)) × IsHeadParts src a (whole (function_of pos [] sig)) b
-IsHeadOf src GenericFunc a x b = (pos : Pos) × (t : ℕ) × (ts : List ℕ) × (sig : Sig) × (x ≡ whole (function_of pos (t ∷ ts) sig)) × IsHeadParts src a (whole (function_of pos (t ∷ ts) sig)) b
-IsHeadOf src ConstTag a x b = (pos : Pos) × (type at : ℕ) × (x ≡ of_constant pos type at) × IsHeadParts src a (of_constant pos type at) b
-IsHeadOf src Defined a x b = (pos : Pos) × (type : ℕ) × (x ≡ of_type pos [] type) × IsHeadParts src a (of_type pos [] type) b
-IsHeadOf src GenericDefined a x b = (pos : Pos) × (t : ℕ) × (ts : List ℕ) × (type : ℕ) × (x ≡ of_type pos (t ∷ ts) type) × IsHeadParts src a (of_type pos (t ∷ ts) type) b
-IsHeadOf src Alias a x b = (pos : Pos) × (type : ℕ) × (x ≡ whole (renamed_of pos [] type)) × IsHeadParts src a (whole (renamed_of pos [] type)) b
-IsHeadOf src GenericAlias a x b = (pos : Pos) × (t : ℕ) × (ts : List ℕ) × (type : ℕ) × (x ≡ whole (renamed_of pos (t ∷ ts) type)) × IsHeadParts src a (whole (renamed_of pos (t ∷ ts) type)) b
-IsHeadOf src TypeParameter a x b = (pos : Pos) × (implicit : Bool) × (constraint : ℕ) × (x ≡ whole (type_parameter_of pos implicit constraint)) × IsHeadParts src a (whole (type_parameter_of pos implicit constraint)) b
+IsHeadOf src Var a x b = (pos : SpelledPos) × (type : SpelledType) × (x ≡ whole (var_of pos type)) × IsHeadParts src a (whole (var_of pos type)) b
+IsHeadOf src Func a x b = (pos : SpelledPos) × (sig : Sig) × (x ≡ whole (function_of pos [] sig)) × IsHeadParts src a (whole (function_of pos [] sig)) b
+IsHeadOf src GenericFunc a x b = (pos : SpelledPos) × (t : SpelledType) × (ts : List SpelledType) × (sig : Sig) × (x ≡ whole (function_of pos (t ∷ ts) sig)) × IsHeadParts src a (whole (function_of pos (t ∷ ts) sig)) b
+IsHeadOf src ConstTag a x b = (pos : SpelledPos) × (type : SpelledType) × (at : ℕ) × (x ≡ of_constant pos type at) × IsHeadParts src a (of_constant pos type at) b
+IsHeadOf src Defined a x b = (pos : SpelledPos) × (type : SpelledType) × (x ≡ of_type pos [] type) × IsHeadParts src a (of_type pos [] type) b
+IsHeadOf src GenericDefined a x b = (pos : SpelledPos) × (t : SpelledType) × (ts : List SpelledType) × (type : SpelledType) × (x ≡ of_type pos (t ∷ ts) type) × IsHeadParts src a (of_type pos (t ∷ ts) type) b
+IsHeadOf src Alias a x b = (pos : SpelledPos) × (type : SpelledType) × (x ≡ whole (renamed_of pos [] type)) × IsHeadParts src a (whole (renamed_of pos [] type)) b
+IsHeadOf src GenericAlias a x b = (pos : SpelledPos) × (t : SpelledType) × (ts : List SpelledType) × (type : SpelledType) × (x ≡ whole (renamed_of pos (t ∷ ts) type)) × IsHeadParts src a (whole (renamed_of pos (t ∷ ts) type)) b
+IsHeadOf src TypeParameter a x b = (pos : SpelledPos) × (implicit : Bool) × (constraint : SpelledType) × (x ≡ whole (type_parameter_of pos implicit constraint)) × IsHeadParts src a (whole (type_parameter_of pos implicit constraint)) b
 
 -- its kind, and its parts
 abbrev KindAndParts : Sections → DeclTag → Here → Here → Head → Type 0
@@ -76,7 +75,7 @@ of_its_kind src a (of_constant pos type at) b w = (pos, type, at, refl, w)
 var_reads : (src : Sections) → Reads (IsBytes src.strings) (var_at src) (IsHeadOf src Var) head_asks
 unfolding var_at
 var_reads src =
-    two_reads (pos_at src) (type_at Any) (IsPos src) IsNumber nothing any_type (λ pos type. whole (var_of pos type)) (IsHeadOf src Var) head_asks (pos_reads src) (type_reads Any) (λ pos type. refl)
+    two_reads (pos_at src) (type_at Any) (IsPos src) IsType nothing any_type (λ pos type. whole (var_of pos type)) (IsHeadOf src Var) head_asks (pos_reads src) (type_reads Any) (λ pos type. refl)
     (λ a pos b type c first second. (pos, type, refl, (b, first, second)))
     (λ a x b w. record { x = w.0; y = w.1; at_y = w.3.0; first = w.3.1; second = w.3.2; made = w.2 })
 
@@ -90,31 +89,31 @@ func_decl_reads src =
 defined_reads : (src : Sections) → Reads (IsBytes src.strings) (defined_at src) (IsHeadOf src Defined) head_asks
 unfolding defined_at
 defined_reads src =
-    two_reads (pos_at src) (type_at Underlying) (IsPos src) IsNumber nothing (λ type. (type, Underlying) ∷ []) (λ pos type. of_type pos [] type) (IsHeadOf src Defined) head_asks
+    two_reads (pos_at src) (type_at Underlying) (IsPos src) IsType nothing (λ type. (type.number, Underlying) ∷ []) (λ pos type. of_type pos [] type) (IsHeadOf src Defined) head_asks
     (pos_reads src) (type_reads Underlying) (λ pos type. refl)
     (λ a pos b type c first second. (pos, type, refl, (b, b, first, refl, second)))
-    (λ a x b w. record { x = w.0; y = w.1; at_y = w.3.0; first = w.3.2; second = subst (λ m. IsNumber m w.1 b) (sym w.3.3) w.3.4; made = w.2 })
+    (λ a x b w. record { x = w.0; y = w.1; at_y = w.3.0; first = w.3.2; second = subst (λ m. IsType m w.1 b) (sym w.3.3) w.3.4; made = w.2 })
 
 alias_reads : (src : Sections) → Reads (IsBytes src.strings) (alias_at src) (IsHeadOf src Alias) head_asks
 unfolding alias_at
 alias_reads src =
-    two_reads (pos_at src) (type_at Any) (IsPos src) IsNumber nothing any_type (λ pos type. whole (renamed_of pos [] type)) (IsHeadOf src Alias) head_asks (pos_reads src) (type_reads Any) (λ pos type. refl)
+    two_reads (pos_at src) (type_at Any) (IsPos src) IsType nothing any_type (λ pos type. whole (renamed_of pos [] type)) (IsHeadOf src Alias) head_asks (pos_reads src) (type_reads Any) (λ pos type. refl)
     (λ a pos b type c first second. (pos, type, refl, (b, b, first, refl, second)))
-    (λ a x b w. record { x = w.0; y = w.1; at_y = w.3.0; first = w.3.2; second = subst (λ m. IsNumber m w.1 b) (sym w.3.3) w.3.4; made = w.2 })
+    (λ a x b w. record { x = w.0; y = w.1; at_y = w.3.0; first = w.3.2; second = subst (λ m. IsType m w.1 b) (sym w.3.3) w.3.4; made = w.2 })
 
 -- ---- with type parameters
 
-abbrev parameter_type : ℕ → List Ask
-parameter_type type = (type, Parameter) ∷ []
+abbrev parameter_type : SpelledType → List Ask
+parameter_type type = (type.number, Parameter) ∷ []
 
-abbrev AreSome : Here → List ℕ → Here → Type 0
-AreSome = IsSome (type_at Parameter) IsNumber parameter_type
+abbrev AreSome : Here → List SpelledType → Here → Type 0
+AreSome = IsSome (type_at Parameter) IsType parameter_type
 
 tparams_reads : {Given : Type 0} → Reads Given tparams_at AreSome (flat_map parameter_type)
-tparams_reads = some_reads (type_at Parameter) IsNumber parameter_type (type_reads Parameter)
+tparams_reads = some_reads (type_at Parameter) IsType parameter_type (type_reads Parameter)
 
-parameters_ask : (ts : List ℕ) (others : List Ask) → flat_map parameter_type ts ++ others ≡ asking Parameter ts ++ others
-parameters_ask ts others = ap (λ (asks : List Ask). asks ++ others) (flat_map_single (λ type. (type, Parameter)) ts)
+parameters_ask : (ts : List SpelledType) (others : List Ask) → flat_map parameter_type ts ++ others ≡ asking Parameter ts ++ others
+parameters_ask ts others = ap (λ (asks : List Ask). asks ++ others) (flat_map_single (λ type. (type.number, Parameter)) ts)
 
 generic_func_reads : (src : Sections) → Reads (IsBytes src.strings) (generic_func_at src) (IsHeadOf src GenericFunc) head_asks
 unfolding generic_func_at
@@ -124,35 +123,35 @@ generic_func_reads src =
     join
     (λ a x b w. record { x = w.0; y = w.1 ∷ w.2; z = w.3; at_y = w.5.0; at_z = w.5.1; first = w.5.2; second = (w.5.3, omega arith); third = w.5.4; made = w.4 })
   where
-    join : (a : Here) (pos : Pos) (b : Here) (ts : List ℕ) (c : Here) (sig : Sig) (d : Here) → IsPos src a pos b → AreSome b ts c → IsSig src c sig d → IsHeadOf src GenericFunc a (whole (function_of pos ts sig)) d
+    join : (a : Here) (pos : SpelledPos) (b : Here) (ts : List SpelledType) (c : Here) (sig : Sig) (d : Here) → IsPos src a pos b → AreSome b ts c → IsSig src c sig d → IsHeadOf src GenericFunc a (whole (function_of pos ts sig)) d
     join a pos b [] c sig d first second third = absurd (omega (arith, second.1))
     join a pos b (t ∷ ts) c sig d first second third = (pos, t, ts, sig, refl, (b, c, first, second.0, third))
 
 generic_defined_reads : (src : Sections) → Reads (IsBytes src.strings) (generic_defined_at src) (IsHeadOf src GenericDefined) head_asks
 unfolding generic_defined_at
 generic_defined_reads src =
-    three_reads (pos_at src) tparams_at (λ pos b ts. type_at Underlying) (IsPos src) AreSome (λ pos ts. IsNumber) nothing (flat_map parameter_type) (λ pos ts type. (type, Underlying) ∷ []) (λ pos ts type. of_type pos ts type)
-    (IsHeadOf src GenericDefined) head_asks (pos_reads src) tparams_reads (λ pos b ts. type_reads Underlying) (λ pos ts type. parameters_ask ts ((type, Underlying) ∷ []))
+    three_reads (pos_at src) tparams_at (λ pos b ts. type_at Underlying) (IsPos src) AreSome (λ pos ts. IsType) nothing (flat_map parameter_type) (λ pos ts type. (type.number, Underlying) ∷ []) (λ pos ts type. of_type pos ts type)
+    (IsHeadOf src GenericDefined) head_asks (pos_reads src) tparams_reads (λ pos b ts. type_reads Underlying) (λ pos ts type. parameters_ask ts ((type.number, Underlying) ∷ []))
     join
     (λ a x b w. record { x = w.0; y = w.1 ∷ w.2; z = w.3; at_y = w.5.0; at_z = w.5.1; first = w.5.2; second = (w.5.3, omega arith); third = w.5.4; made = w.4 })
   where
-    join : (a : Here) (pos : Pos) (b : Here) (ts : List ℕ) (c : Here) (type : ℕ) (d : Here) → IsPos src a pos b → AreSome b ts c → IsNumber c type d → IsHeadOf src GenericDefined a (of_type pos ts type) d
+    join : (a : Here) (pos : SpelledPos) (b : Here) (ts : List SpelledType) (c : Here) (type : SpelledType) (d : Here) → IsPos src a pos b → AreSome b ts c → IsType c type d → IsHeadOf src GenericDefined a (of_type pos ts type) d
     join a pos b [] c type d first second third = absurd (omega (arith, second.1))
     join a pos b (t ∷ ts) c type d first second third = (pos, t, ts, type, refl, (b, c, first, second.0, third))
 
 generic_alias_reads : (src : Sections) → Reads (IsBytes src.strings) (generic_alias_at src) (IsHeadOf src GenericAlias) head_asks
 unfolding generic_alias_at
 generic_alias_reads src =
-    three_reads_where (pos_at src) tparams_at (λ pos b ts. type_at NoParameter) (IsPos src) AreSome (λ pos ts. IsNumber) nothing (flat_map parameter_type) (λ pos ts type. (type, NoParameter) ∷ [])
+    three_reads_where (pos_at src) tparams_at (λ pos b ts. type_at NoParameter) (IsPos src) AreSome (λ pos ts. IsType) nothing (flat_map parameter_type) (λ pos ts type. (type.number, NoParameter) ∷ [])
     (λ pos ts type. whole (renamed_of pos ts type)) (IsHeadOf src GenericAlias) head_asks (pos_reads src) tparams_reads (λ pos b ts. type_reads NoParameter) same
     join
     (λ a x b w. record { x = w.0; y = w.1 ∷ w.2; z = w.3; at_y = w.5.0; at_z = w.5.1; first = w.5.2; second = (w.5.3, omega arith); third = w.5.4; made = w.4 })
   where
-    same : (pos : Pos) (b c : Here) (ts : List ℕ) (type : ℕ) → AreSome b ts c → flat_map parameter_type ts ++ (type, NoParameter) ∷ [] ≡ head_asks (whole (renamed_of pos ts type))
+    same : (pos : SpelledPos) (b c : Here) (ts : List SpelledType) (type : SpelledType) → AreSome b ts c → flat_map parameter_type ts ++ (type.number, NoParameter) ∷ [] ≡ head_asks (whole (renamed_of pos ts type))
     same pos b c [] type some = absurd (omega (arith, some.1))
-    same pos b c (t ∷ ts) type some = parameters_ask (t ∷ ts) ((type, NoParameter) ∷ [])
+    same pos b c (t ∷ ts) type some = parameters_ask (t ∷ ts) ((type.number, NoParameter) ∷ [])
 
-    join : (a : Here) (pos : Pos) (b : Here) (ts : List ℕ) (c : Here) (type : ℕ) (d : Here) → IsPos src a pos b → AreSome b ts c → IsNumber c type d → IsHeadOf src GenericAlias a (whole (renamed_of pos ts type)) d
+    join : (a : Here) (pos : SpelledPos) (b : Here) (ts : List SpelledType) (c : Here) (type : SpelledType) (d : Here) → IsPos src a pos b → AreSome b ts c → IsType c type d → IsHeadOf src GenericAlias a (whole (renamed_of pos ts type)) d
     join a pos b [] c type d first second third = absurd (omega (arith, second.1))
     join a pos b (t ∷ ts) c type d first second third = (pos, t, ts, type, refl, (b, c, first, second.0, third))
 
@@ -162,15 +161,15 @@ unplaced_constraint : (implicit : Bool) (at : ℕ) → unplaced (constraint_dema
 unplaced_constraint true at = refl
 unplaced_constraint false at = refl
 
-constraint_reads : {Given : Type 0} (implicit : Bool) (at : ℕ) → Reads Given (type_at (constraint_demand implicit at)) IsNumber (λ type. (type, constraint_demand implicit 0) ∷ [])
+constraint_reads : {Given : Type 0} (implicit : Bool) (at : ℕ) → Reads Given (type_at (constraint_demand implicit at)) IsType (λ type. (type.number, constraint_demand implicit 0) ∷ [])
 constraint_reads implicit at =
-    ask_reads (type_at (constraint_demand implicit at)) IsNumber (λ type. (type, unplaced (constraint_demand implicit at)) ∷ []) (λ type. (type, constraint_demand implicit 0) ∷ []) (type_reads (constraint_demand implicit at))
-    (λ type. ap (λ (asked : Demand). (type, asked) ∷ []) (unplaced_constraint implicit at))
+    ask_reads (type_at (constraint_demand implicit at)) IsType (λ type. (type.number, unplaced (constraint_demand implicit at)) ∷ []) (λ type. (type.number, constraint_demand implicit 0) ∷ []) (type_reads (constraint_demand implicit at))
+    (λ type. ap (λ (asked : Demand). (type.number, asked) ∷ []) (unplaced_constraint implicit at))
 
 parameter_reads : (src : Sections) → Reads (IsBytes src.strings) (parameter_at src) (IsHeadOf src TypeParameter) head_asks
 unfolding parameter_at
 parameter_reads src =
-    three_reads (pos_at src) truth_at (λ pos b implicit. type_at (constraint_demand implicit (place b.spot))) (IsPos src) IsTruth (λ pos implicit. IsNumber) nothing nothing (λ pos implicit type. (type, constraint_demand implicit 0) ∷ [])
+    three_reads (pos_at src) truth_at (λ pos b implicit. type_at (constraint_demand implicit (place b.spot))) (IsPos src) IsTruth (λ pos implicit. IsType) nothing nothing (λ pos implicit type. (type.number, constraint_demand implicit 0) ∷ [])
     (λ pos implicit type. whole (type_parameter_of pos implicit type)) (IsHeadOf src TypeParameter) head_asks (pos_reads src) truth_reads (λ pos b implicit. constraint_reads implicit (place b.spot)) (λ pos implicit type. refl)
     (λ a pos b implicit c type d first second third. (pos, implicit, type, refl, (b, c, first, second, third)))
     (λ a x b w. record { x = w.0; y = w.1; z = w.2; at_y = w.4.0; at_z = w.4.1; first = w.4.2; second = w.4.3; third = w.4.4; made = w.3 })
@@ -183,7 +182,7 @@ constant_answers src bytes a fits =
     then_answers (IsPos src) nothing (IsHeadOf src ConstTag) head_asks a a [] (pos_at src a) (λ pos. type_at Any pos.1 >>= λ type. Ok (of_constant pos.0 type.0 (place (pos.1).spot), type.1)) (went_nowhere a fits)
     ((pos_reads src).takes bytes a fits)
     (λ pos b first.
-    then_answers IsNumber any_type (IsHeadOf src ConstTag) head_asks a b [] (type_at Any b) (λ type. Ok (of_constant pos type.0 (place b.spot), type.1)) first.went ((type_reads {Given = Unit {0}} Any).takes tt b first.went.fits)
+    then_answers IsType any_type (IsHeadOf src ConstTag) head_asks a b [] (type_at Any b) (λ type. Ok (of_constant pos type.0 (place b.spot), type.1)) first.went ((type_reads {Given = Unit {0}} Any).takes tt b first.went.fits)
     (λ type c second. record { stands = λ tail. (pos, type, place b.spot, refl, (seen_from b tail, first.stands tail, second.stands tail)); went = went_on a b c [] (any_type type) first.went second.went }))
 
 -- Up to that place, the head that stands there is read again.
@@ -193,12 +192,12 @@ HeadAgain p a x tail after = (y : Head) × (unplaced_head y ≡ unplaced_head x)
 constant_again : (src : Sections) (a : Ahead) (tail : List ℕ) (x : Head) (after : Here) → IsHeadOf src ConstTag (seen_from a tail) x after → length tail ≤ length after.left → HeadAgain (constant_at src) a x tail after
 unfolding constant_at
 constant_again src a tail x after w le =
-    let first = (pos_reads src).again a tail w.0 w.4.0 w.4.1 (omega (arith, le, (number_reads {Given = Unit {0}}).shrinks w.4.0 w.1 after w.4.2)) in
-    let second = (type_reads {Given = Unit {0}} Any).again first.0 tail w.1 after (subst (λ m. IsNumber m w.1 after) first.2 w.4.2) le in
+    let first = (pos_reads src).again a tail w.0 w.4.0 w.4.1 (omega (arith, le, (type_reads {Given = Unit {0}} Any).shrinks w.4.0 w.1 after w.4.2)) in
+    let second = (type_reads {Given = Unit {0}} Any).again first.0 tail w.1 after (subst (λ m. IsType m w.1 after) first.2 w.4.2) le in
     (of_constant w.0 w.1 (place first.0.spot), ap unplaced_head (sym w.3), (second.0, rw (first.1, second.1) refl, second.2))
 
 constant_shrinks : (src : Sections) (a : Here) (x : Head) (b : Here) → IsHeadOf src ConstTag a x b → length b.left ≤ length a.left
-constant_shrinks src a x b w = omega (arith, (pos_reads src).shrinks a w.0 w.4.0 w.4.1, (number_reads {Given = Unit {0}}).shrinks w.4.0 w.1 b w.4.2)
+constant_shrinks src a x b w = omega (arith, (pos_reads src).shrinks a w.0 w.4.0 w.4.1, (type_reads {Given = Unit {0}} Any).shrinks w.4.0 w.1 b w.4.2)
 
 -- ---- each kind
 
@@ -275,7 +274,7 @@ pub head_again : (src : Sections) (a : Ahead) (tail : List ℕ) (x : Head) (afte
 unfolding head_at
 head_again src a tail x after w le =
     let tag = kind_of_head x in
-    let next : Here = record { left = w.rest; before = a.before.place } in
+    let next : Here = record { left = w.rest; before = a.before } in
     let parts : IsHeadOf src tag next x after = of_its_kind src next x after w.parts in
     let first = (byte_reads {Given = Unit {0}}).again a tail (decl_tag_code tag) next ((decl_tag_code tag ∷ [], refl, w.kind), refl) (omega (arith, le, head_by_shrinks src tag next x after parts)) in
     let second = head_by_again src tag first.0 tail x after (subst (λ m. IsHeadOf src tag m x after) first.2 parts) le in
@@ -288,10 +287,10 @@ head_shrinks src a x b w =
 
 -- ---- methods
 
-abbrev make_receiver : Pos → Text → Param → Sig → Receiver
+abbrev make_receiver : SpelledPos → SpelledText → Param → Sig → Receiver
 make_receiver pos name recv sig = record { pos = pos; name = name; recv = recv; sig = sig }
 
-abbrev pub types_of_receiver : Receiver → List ℕ
+abbrev pub types_of_receiver : Receiver → List SpelledType
 types_of_receiver x = receiver_types x
 
 abbrev receiver_asks : Receiver → List Ask

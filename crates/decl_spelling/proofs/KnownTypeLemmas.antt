@@ -5,14 +5,15 @@ use Rattle.code_tables.specs.declared.predeclared.Basic.{Basic}
 use Rattle.decl_spelling.specs.declared.mention.Mention.{Mention}
 use Rattle.decl_spelling.specs.Sections.{Sections}
 use Rattle.decl_spelling.specs.Codes.{basic_of}
-use Rattle.decl_spelling.specs.Tables.{Table, at, basic_tree, finished_tree, type_named}
+use Rattle.decl_spelling.specs.Spelled.{SpelledType}
+use Rattle.decl_spelling.specs.Tables.{Table, at, basic_tree, finished_tree, type_named, type_spelled}
 use Rattle.decl_spelling.specs.Descent.{meets}
 use Rattle.decl_spelling.specs.KnownTypes.{Kept, IsKnown, IsAnswered}
 use Rattle.decl_spelling.specs.Spelling.{Block, Known, Names}
 use Rattle.decl_spelling.proofs.TableLaws.{block, blocks_of, block_found}
 
-abbrev pub known_as : Sections → Table → ℕ → Known
-known_as src done n = record { number = n; tree = type_named src.version done n }
+abbrev pub known_as : Sections → Table → SpelledType → Known
+known_as src done t = record { number = t.number; pos = t.pos; tree = type_spelled src.version done t }
 
 -- ---- by the test for the two kinds
 
@@ -26,11 +27,13 @@ the_basic : (a : Option Basic) → is_some a ≡ true → (basic : Basic) × (a 
 the_basic (Some basic) e = (basic, refl)
 the_basic None e = absurd (cc)
 
-pub known_named : (src : Sections) (done : Table) (holder n : ℕ) → IsKnown src done holder n → Names src (blocks_of done) holder (known_as src done n)
-known_named src done holder n (inl small) =
+pub known_named : (src : Sections) (done : Table) (holder : ℕ) (t : SpelledType) → IsKnown src done holder t.number → Names src (blocks_of done) holder (known_as src done t)
+known_named src done holder t (inl small) =
+    let n = t.number in
     let basic = the_basic (basic_of src.version n) small.1 in
     inl (small.0, basic.0, basic.1, named_basic src done n small.0 ∙ ap basic_tree basic.1)
-known_named src done holder n (inr large) =
+known_named src done holder t (inr large) =
+    let n = t.number in
     let found : at done (n - 32) ≡ Some large.1 = large.2 in
     let off = large.0 in
     inr (block (n - 32) large.1, block_found done (n - 32) large.1 found, omega arith, large.3, named_block src done n large.0 ∙ ap finished_tree found)

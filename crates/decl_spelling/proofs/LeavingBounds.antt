@@ -2,13 +2,12 @@
 use Rattle.std.proofs.Common.{◌≡◌, ℕ, zero, suc, ◌-◌, ◌<◌, List, [], ◌∷◌, ◌++◌, Bool, true, false, not, cond, Result, Ok, Err, nat_lt, is_some, refl, ◌∙◌, ap, arith}
 use Rattle.std.proofs.lemmas.Bool.{ltb-true}
 use Rattle.wire_bytes.specs.declared.fault.ByteFault.{ByteFault}
-use Rattle.type_terms.specs.Shapes.{retype}
-use Rattle.type_terms.specs.Trees.{Tree, tree_of}
+use Rattle.type_terms.specs.Trees.{Tree}
 use Rattle.decl_spelling.specs.declared.mention.Mention.{Mention}
 use Rattle.decl_spelling.specs.Sections.{Sections, window}
 use Rattle.decl_spelling.specs.Reading.{Ahead, Stopped, start}
 use Rattle.decl_spelling.specs.Descriptors.{Flat, flat_at}
-use Rattle.decl_spelling.specs.Tables.{Table, at, free_to, type_named}
+use Rattle.decl_spelling.specs.Tables.{Table, at, free_to, tree_spelled}
 use Rattle.decl_spelling.specs.Descent.{ReadsBlock, resolve, resolve_all, block_at}
 use Rattle.decl_spelling.specs.Leaving.{LeavesBlock, if_well, left_by_type, left_by_types, left_by_block, left_at}
 use Rattle.decl_spelling.proofs.Bounds.{resolve_same, resolve_all_same, block_same}
@@ -38,7 +37,7 @@ module _ (src : Sections) (p q : ReadsBlock) (l k : LeavesBlock) (holder : ℕ) 
 
   block_alike : (x : Result (Flat × Ahead) Stopped) (done : Table) → left_by_block src p l holder x done ≡ left_by_block src q k holder x done
   block_alike (Ok x) done =
-      let own : Table → List Tree = λ known. tree_of (retype (type_named src.version known) x.0) ∷ [] in
+      let own : Table → List Tree = λ known. tree_spelled src.version known x.0 ∷ [] in
       ap (λ (left : List Tree). left ++ if_well (resolve_all src p holder (x.1).mentions done) own) (types_alike (x.1).mentions done)
       ∙ ap (λ (r : Result Table ByteFault). left_by_types src q k holder (x.1).mentions done ++ if_well r own) (resolve_all_same src p q holder agree (x.1).mentions done)
   block_alike (Err stopped) done = types_alike stopped.mentions done

@@ -1,35 +1,35 @@
 -- What reading leaves stands in the types of the declaration, where it is read whole.
 use Rattle.std.proofs.Common.{◌≡◌, ℕ, zero, suc, ◌-◌, ◌<◌, ◌≤◌, List, [], ◌∷◌, ◌++◌, length, map, Contains, Bool, true, false, not, cond, Result, Ok, Err, Option, Some, None, nat_lt, is_some, refl, sym, ◌∙◌, ap, subst, arith}
-use Rattle.std.specs.List.{AllByRecursion, flat_map}
+use Rattle.std.specs.List.{AllByRecursion}
 use Rattle.std.proofs.lemmas.Bool.Decides.{nat_tests}
 use Rattle.std.proofs.lemmas.List.Elements.{Contains-append_left, Contains-append_right}
 use Rattle.wire_bytes.specs.declared.fault.ByteFault.{ByteFault}
 use Rattle.wire_bytes.specs.declared.fault.ByteFault.TheVariants as faults
 use Rattle.wire_bytes.specs.Reading.{◌>>=◌, demand}
-use Rattle.wire_bytes.proofs.Steps.{bind_ok, demand_ok, done_is}
+use Rattle.wire_bytes.proofs.Steps.{bind_ok, done_is}
 use Rattle.wire_bytes.proofs.Spellings.{IsBytes}
-use Rattle.type_terms.specs.Shapes.{retype, shape_types, sig_types}
+use Rattle.type_terms.specs.Shapes.{retype, shape_types}
 use Rattle.type_terms.specs.ShapeLaws.{shape_types_map}
 use Rattle.type_terms.specs.Parts.{Within, itself, inside, parts}
 use Rattle.type_terms.specs.TreeLevels.{level_of-tree_of}
 use Rattle.type_terms.specs.Additions.{StandsIn}
 use Rattle.type_terms.specs.Replaced.{all_append}
-use Rattle.type_terms.specs.Trees.{Text, Tree, tree_of, level_of}
-use Rattle.go_values.specs.declared.positions.Pos.{Pos}
+use Rattle.type_terms.specs.Trees.{Tree}
 use Rattle.decl_spelling.specs.declared.mention.Mention.{Mention}
 use Rattle.decl_spelling.specs.Sections.{Sections, window}
+use Rattle.decl_spelling.specs.Spelled.{SpelledText, SpelledPath, SpelledPos, SpelledType, SpelledShape, pos_meant, text_meant, path_meant, meant}
 use Rattle.decl_spelling.specs.Reading.{Ahead, Stopped, start}
 use Rattle.decl_spelling.specs.Descriptors.{Flat, flat_at}
-use Rattle.decl_spelling.specs.Tables.{Finished, Table, at, with_block, free_to, type_named, finished_tree}
+use Rattle.decl_spelling.specs.Tables.{Finished, Table, at, with_block, free_to, type_named, type_spelled, tree_spelled, finished_tree}
 use Rattle.decl_spelling.specs.Descent.{ReadsBlock, meets, unmet, found_or_read, with_basic, with_descriptor, with_type, resolve, resolve_all, finish, block_at, offset_of}
 use Rattle.decl_spelling.specs.Leaving.{LeavesBlock, if_well, left_by_type, left_by_types, left_by_block, left_at}
 use Rattle.decl_spelling.specs.KnownTypes.{Kept, IsAnswered}
 use Rattle.decl_spelling.specs.Asks.{ask_of, shape_asks, flat_types}
 use Rattle.decl_spelling.proofs.KnownTypeLemmas.{named_block, named_still}
-use Rattle.decl_spelling.proofs.MapLemmas.{all_weaker, map_twice}
+use Rattle.decl_spelling.proofs.MapLemmas.{all_weaker, map_twice, map_same}
 use Rattle.decl_spelling.proofs.TableLaws.{first_has, later_has, found_new, some_is}
-use Rattle.decl_spelling.proofs.TypeTakes.{Fine, Added, ReadsSoundly, named_ok, resolve_known, all_known}
-use Rattle.decl_spelling.proofs.FlatLaws.{flat_took, numbers_of, numbers_asked, shape_asks_types}
+use Rattle.decl_spelling.proofs.TypeTakes.{Fine, ReadsSoundly, named_ok, resolve_known, all_known}
+use Rattle.decl_spelling.proofs.FlatLaws.{flat_took, numbers_of, numbers_asked, numbers_in, shape_asks_types}
 use Rattle.decl_spelling.proofs.AskLemmas.{asks_from}
 use Rattle.decl_spelling.proofs.BlockTakes.{window_fits, block_takes}
 
@@ -68,12 +68,21 @@ types_still src done known holder (m ∷ ms) kept answered =
     let rest = types_still src done known holder ms kept answered.1 in
     λ i. first i ∷ rest i
 
+-- what is meant has the types of what is spelled
+pub meant_types : (shape : SpelledShape Tree) → shape_types (meant shape) ≡ shape_types shape
+meant_types shape = shape_types_map pos_meant text_meant path_meant (λ (t : Tree). t) shape ∙ map_same (λ (t : Tree). t) (λ t. refl) (shape_types shape)
+
+parts_spelled : (version : ℕ) (known : Table) (x : Flat) → parts (tree_spelled version known x) ≡ map (type_spelled version known) (flat_types x)
+parts_spelled version known x =
+    let level = retype (type_spelled version known) x in
+    ap shape_types (level_of-tree_of (meant level)) ∙ meant_types level ∙ shape_types_map (λ (p : SpelledPos). p) (λ (t : SpelledText). t) (λ (t : SpelledPath). t) (type_spelled version known) x
+
 -- the types of a descriptor are the parts of its type
-pub parts_are : (version : ℕ) (known : Table) (ms : List Mention) (x : Flat) → map ask_of ms ≡ shape_asks x → parts (tree_of (retype (type_named version known) x)) ≡ types_of version known ms
+pub parts_are : (version : ℕ) (known : Table) (ms : List Mention) (x : Flat) → map ask_of ms ≡ shape_asks x → parts (tree_spelled version known x) ≡ types_of version known ms
 parts_are version known ms x asks =
-    ap shape_types (level_of-tree_of (retype (type_named version known) x))
-    ∙ shape_types_map (λ (p : Pos). p) (λ (t : Text). t) (λ (t : Text). t) (type_named version known) x
-    ∙ sym (types_as version known ms (flat_types x) (numbers_of ms ∙ ap numbers_asked asks ∙ shape_asks_types x))
+    parts_spelled version known x
+    ∙ sym (map_twice (λ (t : SpelledType). t.number) (type_named version known) (type_spelled version known) (λ t. refl) (flat_types x))
+    ∙ sym (types_as version known ms (numbers_in (flat_types x)) (numbers_of ms ∙ ap numbers_asked asks ∙ shape_asks_types x))
 
 -- ---- what a descriptor leaves stands in its type
 
@@ -135,13 +144,13 @@ module _ (src : Sections) (strings : IsBytes src.strings) (bytes : IsBytes src.b
   finish_within read reads leaves leave offset holder to done known f before within fine (Ok x) e h found =
       let flat = flat_took src strings (start (window src offset to)) (window_fits src offset to bytes) x.0 x.1 e in
       let ms = (x.1).mentions in
-      let fin_of : Table → Finished = λ mid. record { end = offset_of src x.1; tree = tree_of (retype (type_named src.version mid) x.0) } in
+      let fin_of : Table → Finished = λ mid. record { end = offset_of src x.1; tree = tree_spelled src.version mid x.0 } in
       let resolved = bind_ok (resolve_all src read offset ms done) (λ mid. Ok (with_block mid offset (fin_of mid))) known h in
       let mid = resolved.0 in
-      let whole : Tree = tree_of (retype (type_named src.version mid) x.0) in
+      let whole : Tree = tree_spelled src.version mid x.0 in
       let is : f ≡ fin_of mid = some_is f (fin_of mid) (at known offset) found (ap (λ (t : Table). at t offset) (sym (done_is (with_block mid offset (fin_of mid)) known resolved.2)) ∙ found_new mid offset (fin_of mid)) in
       let asks = asks_from (start (window src offset to)) x.1 (shape_asks x.0) refl flat.went in
-      let own : Table → List Tree = λ t. tree_of (retype (type_named src.version t) x.0) ∷ [] in
+      let own : Table → List Tree = λ t. tree_spelled src.version t x.0 ∷ [] in
       let named : AllByRecursion (Within whole) (left_by_types src read leaves offset ms done)
       = all_weaker (StandsIn (types_of src.version mid ms)) (Within whole) (λ t stands. stands_within whole t (subst (λ (ts : List Tree). StandsIn ts t) (sym (parts_are src.version mid ms x.0 asks)) stands)) (left_by_types src read leaves offset ms done)
       (all_reached src read reads leaves leave offset (omega arith) ms done mid fine resolved.1) in

@@ -1,8 +1,7 @@
 -- The blocks that a declaration reaches, each once, and its own take no more than the data section.
-use Rattle.std.proofs.Common.{◌≡◌, ℕ, suc, ◌+◌, ◌-◌, ◌<◌, ◌≤◌, inl, inr, List, [], ◌∷◌, length, sum_by, Contains, Bool, true, false, Ok, Some, refl, ◌∙◌, ap, subst, arith}
+use Rattle.std.proofs.Common.{◌≡◌, ℕ, suc, ◌+◌, ◌-◌, ◌<◌, ◌≤◌, inl, inr, List, [], ◌∷◌, length, sum_by, Contains, Bool, true, false, Ok, Option, Some, None, refl, ◌∙◌, ap, subst, arith}
 use Rattle.std.specs.List.{flat_map}
 use Rattle.std.proofs.lemmas.List.Sums.{sum_by-cons}
-use Rattle.go_values.specs.declared.positions.Pos.{Pos}
 use Rattle.code_tables.specs.DeclTag.{decl_tag_code}
 use Rattle.wire_bytes.specs.Reading.{place, ◌>>=◌}
 use Rattle.wire_bytes.proofs.Steps.{bind_ok, done_is}
@@ -10,8 +9,9 @@ use Rattle.wire_bytes.proofs.Spellings.{IsBytes}
 use Rattle.type_terms.specs.Declarations.{constant_of, defined_of, receiver_types}
 use Rattle.decl_spelling.specs.declared.mention.Demand.TheVariants.{Any}
 use Rattle.decl_spelling.specs.Sections.{Sections, Basics, window}
+use Rattle.decl_spelling.specs.Spelled.{SpelledPos, SpelledType}
 use Rattle.decl_spelling.specs.Reading.{Ahead, start, list_at}
-use Rattle.decl_spelling.specs.Tables.{Finished, Table, at, type_named}
+use Rattle.decl_spelling.specs.Tables.{Finished, Table, at, type_spelled}
 use Rattle.decl_spelling.specs.Descent.{block_at}
 use Rattle.decl_spelling.specs.Constants.{basic_type, spelling_at, value_at}
 use Rattle.decl_spelling.specs.Declarations.{FlatForm, Receiver, Head, whole, of_type, of_constant, head_at, receiver_at, resolved, has_methods, Read, read, methods_of, after_type, fault_alone, after_constant, after_head, read_at}
@@ -80,9 +80,9 @@ record LiesSoFar (src : Sections) (offset : ℕ) (a : Ahead) (done : Table) : Ty
   fine : Fine src done
   types : (o : ℕ) (f : Finished) → at done o ≡ Some f → f.end ≤ offset
 
-read_lies : (src : Sections) (offset : ℕ) (form : FlatForm) (a : Ahead) (done : Table) (x : Read) → LiesSoFar src offset a done → read form a done ≡ Ok x → Lies src offset x
-read_lies src offset form a done x so_far e =
-    subst (Lies src offset) (done_is (record { form = form; end = place a.spot; table = done }) x e)
+read_lies : (src : Sections) (offset : ℕ) (form : FlatForm) (value : Option ℕ) (a : Ahead) (done : Table) (x : Read) → LiesSoFar src offset a done → read form value a done ≡ Ok x → Lies src offset x
+read_lies src offset form value a done x so_far e =
+    subst (Lies src offset) (done_is (record { form = form; value = value; end = place a.spot; table = done }) x e)
     (record { fine = so_far.fine; types = so_far.types; starts = omega (arith, so_far.end, so_far.left); ends = omega (arith, so_far.end) })
 
 -- as more is read, and more types are
@@ -95,29 +95,29 @@ lies_on src offset a b asks done known so_far went added = record {
 }
 
 module _ (src : Sections) (basics : Basics) (strings : IsBytes src.strings) (bytes : IsBytes src.body) (offset : ℕ) (within : offset ≤ length src.body) where
-  methods_lie : (pos : Pos) (tparams : List ℕ) (underlying : ℕ) (a : Ahead) (done : Table) (x : Read) → Fits a → LiesSoFar src offset a done → (own : Bool) → after_type src offset pos tparams underlying a done own ≡ Ok x → Lies src offset x
+  methods_lie : (pos : SpelledPos) (tparams : List SpelledType) (underlying : SpelledType) (a : Ahead) (done : Table) (x : Read) → Fits a → LiesSoFar src offset a done → (own : Bool) → after_type src offset pos tparams underlying a done own ≡ Ok x → Lies src offset x
   methods_lie pos tparams underlying a done x fits so_far true e =
       let both = bind_ok (resolved src offset (list_at (receiver_at src) a) done) (methods_of pos tparams underlying) x e in
       let list = resolved_ok src offset (list_at (receiver_at src) a) done both.0 both.1 in
       let taken = receivers_took src strings a fits (list.0).0 (list.0).1 list.1 in
       let types = all_known src (block_at src offset) (block_takes src strings bytes offset) offset within ((list.0).1).mentions done (both.0).1 so_far.fine list.2 in
       let so_far_then = lies_on src offset a (list.0).1 (asking Any (flat_map receiver_types (list.0).0)) done (both.0).1 so_far taken.went types.0 in
-      read_lies src offset (defined_of pos tparams underlying (list.0).0) (blank (list.0).1) (both.0).1 x so_far_then
-      (ap (λ (z : List Receiver × Ahead). read (defined_of pos tparams underlying z.0) z.1 (both.0).1) list.3 ∙ both.2)
-  methods_lie pos tparams underlying a done x fits so_far false e = read_lies src offset (defined_of pos tparams underlying []) a done x so_far e
+      read_lies src offset (defined_of pos tparams underlying (list.0).0) None (blank (list.0).1) (both.0).1 x so_far_then
+      (ap (λ (z : List Receiver × Ahead). read (defined_of pos tparams underlying z.0) None z.1 (both.0).1) list.3 ∙ both.2)
+  methods_lie pos tparams underlying a done x fits so_far false e = read_lies src offset (defined_of pos tparams underlying []) None a done x so_far e
 
-  constant_lies : (pos : Pos) (type at : ℕ) (a : Ahead) (done : Table) (x : Read) → Fits a → LiesSoFar src offset a done → after_constant src basics pos type at a done ≡ Ok x → Lies src offset x
+  constant_lies : (pos : SpelledPos) (type : SpelledType) (at : ℕ) (a : Ahead) (done : Table) (x : Read) → Fits a → LiesSoFar src offset a done → after_constant src basics pos type at a done ≡ Ok x → Lies src offset x
   constant_lies pos type at a done x fits so_far e =
-      let tree = type_named src.version done type in
-      let chosen = bind_ok (spelling_at at (basic_type basics tree)) (λ spelling. fault_alone (value_at src spelling a) >>= λ value. read (constant_of pos type value.0) value.1 done) x e in
-      let valued = bind_ok (fault_alone (value_at src chosen.0 a)) (λ value. read (constant_of pos type value.0) value.1 done) x chosen.2 in
+      let tree = type_spelled src.version done type in
+      let chosen = bind_ok (spelling_at at (basic_type basics tree)) (λ spelling. fault_alone (value_at src spelling a) >>= λ value. read (constant_of pos type (value.0).value) (value.0).offset value.1 done) x e in
+      let valued = bind_ok (fault_alone (value_at src chosen.0 a)) (λ value. read (constant_of pos type (value.0).value) (value.0).offset value.1 done) x chosen.2 in
       let basic = spelling_ok at (basic_type basics tree) chosen.0 chosen.1 in
       let taken = value_took src chosen.0 (kind_spelling basic.0 chosen.0 basic.2) strings a fits valued.0.0 valued.0.1 (fault_ok (value_at src chosen.0 a) valued.0 valued.1) in
-      read_lies src offset (constant_of pos type valued.0.0) valued.0.1 done x (record { end = taken.went.same_end ∙ so_far.end; left = omega (arith, taken.went.frugal, so_far.left); fine = so_far.fine; types = so_far.types }) valued.2
+      read_lies src offset (constant_of pos type (valued.0.0).value) (valued.0.0).offset valued.0.1 done x (record { end = taken.went.same_end ∙ so_far.end; left = omega (arith, taken.went.frugal, so_far.left); fine = so_far.fine; types = so_far.types }) valued.2
 
   after_lies : (head : Head) (a : Ahead) (done : Table) (x : Read) → Fits a → LiesSoFar src offset a done → after_head src basics offset head a done ≡ Ok x → Lies src offset x
-  after_lies (whole form) a done x fits so_far e = read_lies src offset form a done x so_far e
-  after_lies (of_type pos tparams underlying) a done x fits so_far e = methods_lie pos tparams underlying a done x fits so_far (has_methods (type_named src.version done underlying)) e
+  after_lies (whole form) a done x fits so_far e = read_lies src offset form None a done x so_far e
+  after_lies (of_type pos tparams underlying) a done x fits so_far e = methods_lie pos tparams underlying a done x fits so_far (has_methods (type_spelled src.version done underlying)) e
   after_lies (of_constant pos type at) a done x fits so_far e = constant_lies pos type at a done x fits so_far e
 
 module _ (src : Sections) (basics : Basics) (strings : IsBytes src.strings) (bytes : IsBytes src.body) (offset : ℕ) (x : Read) (e : read_at src basics offset ≡ Ok x) where

@@ -7,6 +7,7 @@ use Rattle.std.proofs.lemmas.List.{map-append}
 use Rattle.wire_bytes.specs.declared.fault.ByteFault.TheVariants as faults
 use Rattle.wire_bytes.specs.Reading.{place}
 use Rattle.decl_spelling.specs.declared.mention.Demand.{Demand}
+use Rattle.decl_spelling.specs.Spelled.{SpelledType}
 use Rattle.decl_spelling.specs.Reading.{Ahead, Reader, number_at, times, list_at, some_at}
 use Rattle.decl_spelling.specs.Grammar.{Here, IsNumber, InTurn, IsList}
 use Rattle.decl_spelling.specs.Asks.{Ask, asking}
@@ -16,10 +17,10 @@ use Rattle.decl_spelling.proofs.BaseReaders.{number_reads}
 
 -- ---- what a list asks is what its elements ask
 
-pub asking-append : (asked : Demand) (xs ys : List ℕ) → asking asked xs ++ asking asked ys ≡ asking asked (xs ++ ys)
-asking-append asked xs ys = sym (map-append (λ type. (type, asked)) xs ys)
+pub asking-append : (asked : Demand) (xs ys : List SpelledType) → asking asked xs ++ asking asked ys ≡ asking asked (xs ++ ys)
+asking-append asked xs ys = sym (map-append (λ type. (type.number, asked)) xs ys)
 
-pub asking-flat : {X : Type 0} (asked : Demand) (types : X → List ℕ) (xs : List X) → flat_map (λ x. asking asked (types x)) xs ≡ asking asked (flat_map types xs)
+pub asking-flat : {X : Type 0} (asked : Demand) (types : X → List SpelledType) (xs : List X) → flat_map (λ x. asking asked (types x)) xs ≡ asking asked (flat_map types xs)
 asking-flat asked types [] = refl
 asking-flat asked types (x ∷ xs) = ap (λ (asks : List Ask). asking asked (types x) ++ asks) (asking-flat asked types xs) ∙ asking-append asked (types x) (flat_map types xs)
 

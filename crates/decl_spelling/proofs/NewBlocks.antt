@@ -3,17 +3,17 @@ use Rattle.std.proofs.Common.{◌≡◌, ◌≢◌, ℕ, ◌+◌, ◌<◌, ◌�
 use Rattle.std.specs.List.{AllByRecursion}
 use Rattle.std.proofs.lemmas.Bool.Decides.{eqb_tells}
 use Rattle.std.proofs.lemmas.List.Elements.{All-from_recursion, All-weaker}
-use Rattle.go_values.specs.declared.positions.Pos.{Pos}
 use Rattle.type_terms.specs.Shapes.{shape_types, retype}
 use Rattle.type_terms.specs.ShapeLaws.{shape_types_map}
-use Rattle.type_terms.specs.Trees.{Text, tree_of}
+use Rattle.type_terms.specs.Trees.{Tree, tree_of}
 use Rattle.wire_bytes.specs.Uvarint.{IsGroups, BeginsWith}
 use Rattle.code_tables.specs.TypeTag.{type_tag_code}
 use Rattle.decl_spelling.specs.Sections.{Sections}
+use Rattle.decl_spelling.specs.Spelled.{SpelledText, SpelledPath, SpelledPos, SpelledShape, meant}
 use Rattle.decl_spelling.specs.Descriptors.{Flat}
-use Rattle.decl_spelling.specs.Tables.{Finished, Table, at, with_block, free_to, type_named}
+use Rattle.decl_spelling.specs.Tables.{Finished, Table, at, with_block, free_to, type_spelled, tree_spelled}
 use Rattle.decl_spelling.specs.Grammar.{Here, IsDescriptor}
-use Rattle.decl_spelling.specs.Spelling.{Block, Known, Names, Says, here}
+use Rattle.decl_spelling.specs.Spelling.{Block, Known, Names, Says, here, number_of}
 use Rattle.decl_spelling.specs.Asks.{shape_asks}
 use Rattle.decl_spelling.proofs.DescriptorReaders.{flat_by_reads}
 use Rattle.decl_spelling.proofs.TableLaws.{Rising, rising_new, block, blocks_of, finished_of, block_found, found_block, found_new, found_still, some_is, stop_apart}
@@ -40,25 +40,25 @@ says_more src some all b more says = record {
 pub all_named : (src : Sections) (mid : Table) (blocks : List Block) (offset : ℕ) (x : Flat) → ((b : Block) → Contains (blocks_of mid) b → Contains blocks b) → AllByRecursion (IsMet src mid offset) (shape_asks x)
     → All (Names src blocks offset) (shape_types (retype (known_as src mid) x))
 all_named src mid blocks offset x more met =
-    let each : AllByRecursion (λ n. Names src blocks offset (known_as src mid n)) (shape_types x)
-    = shape_all (IsMet src mid offset) (λ n. Names src blocks offset (known_as src mid n)) (λ ask known. names_more src (blocks_of mid) blocks offset (known_as src mid ask.0) more (known_named src mid offset ask.0 known.0)) x met in
-    let types : shape_types (retype (known_as src mid) x) ≡ map (known_as src mid) (shape_types x) = shape_types_map (λ (x : Pos). x) (λ (x : Text). x) (λ (x : Text). x) (known_as src mid) x in
+    let each : AllByRecursion (λ t. Names src blocks offset (known_as src mid t)) (shape_types x)
+    = shape_all (IsMet src mid offset) (λ t. Names src blocks offset (known_as src mid t)) (λ t asked known. names_more src (blocks_of mid) blocks offset (known_as src mid t) more (known_named src mid offset t known.0)) x met in
+    let types : shape_types (retype (known_as src mid) x) ≡ map (known_as src mid) (shape_types x) = shape_types_map (λ (x : SpelledPos). x) (λ (x : SpelledText). x) (λ (x : SpelledPath). x) (known_as src mid) x in
     subst (λ (xs : List Known). All (Names src blocks offset) xs) (sym types)
     (All-from_recursion (Names src blocks offset) (map (known_as src mid) (shape_types x)) (all_map (Names src blocks offset) (known_as src mid) (shape_types x) each))
 
 -- a descriptor that was read, with its types
 pub new_says : (src : Sections) (mid : Table) (blocks : List Block) (offset : ℕ) (x : Flat) (after : Here) (end : ℕ) → ((b : Block) → Contains (blocks_of mid) b → Contains blocks b)
     → AllByRecursion (IsMet src mid offset) (shape_asks x) → IsDescriptor src (here src offset) x after → end + length after.left ≡ length src.body
-    → Says src blocks (block offset (record { end = end; tree = tree_of (retype (type_named src.version mid) x) }))
+    → Says src blocks (block offset (record { end = end; tree = tree_spelled src.version mid x }))
 new_says src mid blocks offset x after end more met stands ends =
-    let numbers : retype (λ (x : Known). x.number) (retype (known_as src mid) x) ≡ x = retype_twice (known_as src mid) (λ (x : Known). x.number) Pos Text Text x ∙ retype_same Pos Text Text x in
-    let trees : retype (λ (x : Known). x.tree) (retype (known_as src mid) x) ≡ retype (type_named src.version mid) x = retype_twice (known_as src mid) (λ (x : Known). x.tree) Pos Text Text x in
+    let numbers : retype number_of (retype (known_as src mid) x) ≡ x = retype_twice (known_as src mid) number_of SpelledPos SpelledText SpelledPath x ∙ retype_same SpelledPos SpelledText SpelledPath x in
+    let trees : retype (λ (x : Known). x.tree) (retype (known_as src mid) x) ≡ retype (type_spelled src.version mid) x = retype_twice (known_as src mid) (λ (x : Known). x.tree) SpelledPos SpelledText SpelledPath x in
     record {
       parts = retype (known_as src mid) x;
       after = after;
       stands = subst (λ (flat : Flat). IsDescriptor src (here src offset) flat after) (sym numbers) stands;
       ends = ends;
-      type = ap tree_of (sym trees);
+      type = ap (λ (level : SpelledShape Tree). tree_of (meant level)) (sym trees);
       named = all_named src mid blocks offset x more met;
       generic = base_met src mid offset x met;
     }
@@ -86,7 +86,7 @@ module _ (src : Sections) where
   -- no block is empty
   pub block_some : (blocks : List Block) (b : Block) → Says src blocks b → b.start < b.end
   block_some blocks b says =
-      let fewer : length says.after.left < length (drop b.start src.body) = descriptor_some (here src b.start) (retype (λ (x : Known). x.number) says.parts) says.after says.stands in
+      let fewer : length says.after.left < length (drop b.start src.body) = descriptor_some (here src b.start) (retype number_of says.parts) says.after says.stands in
       omega (arith, fewer, length-drop b.start src.body, says.ends)
 
   -- what is read for a block doesn't start where the block starts

@@ -8,28 +8,26 @@ use Rattle.std.proofs.lemmas.List.Elements.{All-contains, All-from_recursion}
 use Rattle.wire_bytes.specs.declared.fault.ByteFault.{ByteFault}
 use Rattle.wire_bytes.specs.Reading.{◌>>=◌}
 use Rattle.wire_bytes.proofs.Spellings.{IsBytes}
-use Rattle.type_terms.specs.Shapes.{retype}
 use Rattle.type_terms.specs.Denotation.{tree}
 use Rattle.type_terms.specs.Arenas.{Contents, Extends}
 use Rattle.type_terms.specs.Extensions.{extends_tree}
 use Rattle.type_terms.specs.Additions.{StandsIn, IsDenoted, AddsOnly, Outgrows}
 use Rattle.type_terms.specs.Replaced.{all_append}
-use Rattle.type_terms.specs.Trees.{Tree, tree_of}
-use Rattle.type_terms.specs.Declarations.{form_types, Decl}
+use Rattle.type_terms.specs.Trees.{Tree}
+use Rattle.type_terms.specs.Declarations.{form_types, form_map, Decl}
 use Rattle.decl_spelling.specs.declared.mention.Mention.{Mention}
 use Rattle.decl_spelling.specs.Sections.{Sections, Basics, HoldsBytes, window}
 use Rattle.decl_spelling.specs.Reading.{Ahead, Stopped, start, list_at}
 use Rattle.decl_spelling.specs.Descriptors.{Flat, flat_at}
-use Rattle.decl_spelling.specs.Tables.{Finished, Table, at, with_block, free_to, type_named}
+use Rattle.decl_spelling.specs.Tables.{Finished, Table, at, with_block, free_to, type_spelled, tree_spelled}
 use Rattle.decl_spelling.specs.Descent.{ReadsBlock, resolve, resolve_all, block_at, offset_of}
 use Rattle.decl_spelling.specs.Declarations.{Head, whole, of_type, of_constant, head_at, receiver_at, resolved, has_methods, decl_at}
 use Rattle.decl_spelling.specs.Leaving.{LeavesBlock, if_well, left_by_type, left_by_types, left_by_block, left_at, left_by_named, left_by_part, left_by_methods, left_after_head, left_by_decl, types_by, types_read}
-use Rattle.decl_spelling.specs.Spelling.{Block, Known, Names, Sound}
+use Rattle.decl_spelling.specs.Spelling.{Known, Names, same_pos, same_text}
 use Rattle.decl_spelling.specs.OneFile.{IsOfFile, type_count, HoldsTypesOf}
 use Rattle.decl_spelling.proofs.TableLaws.{block, blocks_of, block_found, found_new}
-use Rattle.decl_spelling.proofs.MapLemmas.{all_weaker}
-use Rattle.decl_spelling.proofs.Forms.{form_types_map}
-use Rattle.decl_spelling.proofs.TypeTakes.{Fine, Added, ReadsSoundly, resolve_known, all_known}
+use Rattle.decl_spelling.proofs.Forms.{form_types_map, form_meant_types}
+use Rattle.decl_spelling.proofs.TypeTakes.{Fine, ReadsSoundly, resolve_known, all_known}
 use Rattle.decl_spelling.proofs.BlockTakes.{block_takes, finish_takes}
 use Rattle.decl_spelling.proofs.DeclTakes.{resolved_ok, fine_none}
 use Rattle.decl_spelling.proofs.DeclAtLaws.{strings_are, body_is, decl_found}
@@ -75,10 +73,10 @@ module _ (src : Sections) (strings : IsBytes src.strings) (bytes : IsBytes src.b
       (last (resolve_all src read offset (x.1).mentions done) refl)
     where
       fin_of : Table → Finished
-      fin_of mid = record { end = offset_of src x.1; tree = tree_of (retype (type_named src.version mid) x.0) }
+      fin_of mid = record { end = offset_of src x.1; tree = tree_spelled src.version mid x.0 }
 
       own : Table → List Tree
-      own mid = tree_of (retype (type_named src.version mid) x.0) ∷ []
+      own mid = tree_spelled src.version mid x.0 ∷ []
 
       last : (known : Result Table ByteFault) → resolve_all src read offset (x.1).mentions done ≡ known → AllByRecursion (IsOfFile src) (if_well known own)
       last (Ok mid) is =
@@ -112,7 +110,7 @@ module _ (src : Sections) (basics : Basics) (holds : HoldsBytes src) (offset : �
 
   after_is : (head : Head) (a : Ahead) (done : Table) → Fine src done → AllByRecursion (IsOfFile src) (left_after_head src offset head a done)
   after_is (whole form) a done fine = tt
-  after_is (of_type pos tparams underlying) a done fine = methods_are a done fine (has_methods (type_named src.version done underlying))
+  after_is (of_type pos tparams underlying) a done fine = methods_are a done fine (has_methods (type_spelled src.version done underlying))
   after_is (of_constant pos type at) a done fine = tt
 
   pub left_of_file : AllByRecursion (IsOfFile src) (left_by_decl src offset)
@@ -155,7 +153,7 @@ module _ (src : Sections) (basics : Basics) (holds : HoldsBytes src) (offset : �
   of_file_by : (r : Result Decl ByteFault) → decl_at src basics offset ≡ r → (t : Tree) → Contains (types_by src offset r) t → IsOfFile src t
   of_file_by (Ok decl) e t has =
       let spells = decl_found src basics holds offset decl e in
-      let types : form_types decl ≡ map (λ (x : Known). x.tree) (form_types spells.parts) = ap form_types spells.meant ∙ form_types_map (λ (x : Known). x.tree) spells.parts in
+      let types : form_types decl ≡ map (λ (x : Known). x.tree) (form_types spells.parts) = ap form_types spells.meant ∙ form_meant_types (form_map same_pos same_text (λ (x : Known). x.tree) spells.parts) ∙ form_types_map same_pos same_text (λ (x : Known). x.tree) spells.parts in
       let known = mapped_has (form_types spells.parts) t (subst (λ (ts : List Tree). Contains ts t) types has) in
       subst (IsOfFile src) known.2 (named_in_file src spells.blocks offset known.0 spells.sound (All-contains (Names src spells.blocks offset) (form_types spells.parts) known.0 spells.named known.1))
   of_file_by (Err f) e t has = All-contains (IsOfFile src) (left_by_decl src offset) t (All-from_recursion (IsOfFile src) (left_by_decl src offset) all_of_file) has

@@ -1,24 +1,24 @@
 -- The types that one file has: what stands in them, and that there are no more than typeOffs.
-use Rattle.std.proofs.Common.{◌≡◌, ◌≢◌, ℕ, zero, suc, ◌+◌, ◌<◌, ◌≤◌, ◌⊎◌, inl, inr, List, [], ◌∷◌, length, map, All, Contains, true, false, Some, eqb, refl, sym, ◌∙◌, ap, subst, arith}
+use Rattle.std.proofs.Common.{◌≡◌, ◌≢◌, ℕ, suc, ◌<◌, ◌≤◌, ◌⊎◌, inl, inr, List, [], ◌∷◌, length, map, Contains, true, false, eqb, refl, sym, ◌∙◌, ap, subst, arith}
 use Rattle.std.specs.List.{AllByRecursion, AllPairs, IsDistinct, list_any}
 use Rattle.std.proofs.lemmas.Bool.{cases_Bool}
 use Rattle.std.proofs.lemmas.Bool.Decides.{nat_tests}
 use Rattle.std.proofs.lemmas.Map.Steps.{length-le_from_distinct_below}
 use Rattle.std.proofs.lemmas.List.Elements.{All-contains}
-use Rattle.go_values.specs.declared.positions.Pos.{Pos}
-use Rattle.code_tables.specs.declared.predeclared.Basic.{Basic}
-use Rattle.type_terms.specs.Shapes.{Shape, shape_types, retype}
+use Rattle.type_terms.specs.Shapes.{shape_types, retype}
 use Rattle.type_terms.specs.ShapeLaws.{shape_types_map}
-use Rattle.type_terms.specs.Trees.{Text, Tree, predeclared, tree_of}
+use Rattle.type_terms.specs.Trees.{Tree, predeclared}
 use Rattle.type_terms.specs.TreeLevels.{level_of-tree_of}
 use Rattle.type_terms.specs.Parts.{Within, itself, inside, parts}
 use Rattle.decl_spelling.specs.Sections.{Sections, HoldsBytes}
+use Rattle.decl_spelling.specs.Spelled.{SpelledText, SpelledPath, SpelledPos, meant}
 use Rattle.decl_spelling.specs.Codes.{basic_of}
 use Rattle.decl_spelling.specs.Spelling.{Block, Known, Names, Sound}
 use Rattle.decl_spelling.specs.OneFile.{NamesType, IsOfFile, type_count}
 use Rattle.decl_spelling.proofs.TableLaws.{has_where, has_none, some_is, first_has, later_has}
 use Rattle.decl_spelling.proofs.NewBlocks.{block_some}
 use Rattle.decl_spelling.proofs.DeclAtLaws.{one_type}
+use Rattle.decl_spelling.proofs.LeavingReach.{meant_types}
 
 -- ---- what stands in a type of the file is one
 
@@ -43,7 +43,8 @@ part_of_file src type part has (number, (blocks, sound, inl basic)) =
 part_of_file src type part has (number, (blocks, sound, inr block)) =
     let says = sound.each block.0 block.1 in
     let trees : parts type ≡ map (λ (x : Known). x.tree) (shape_types says.parts)
-    = ap parts (block.4 ∙ says.type) ∙ ap shape_types (level_of-tree_of (retype (λ (x : Known). x.tree) says.parts)) ∙ shape_types_map (λ (p : Pos). p) (λ (t : Text). t) (λ (t : Text). t) (λ (x : Known). x.tree) says.parts in
+    = ap parts (block.4 ∙ says.type) ∙ ap shape_types (level_of-tree_of (meant (retype (λ (x : Known). x.tree) says.parts))) ∙ meant_types (retype (λ (x : Known). x.tree) says.parts)
+    ∙ shape_types_map (λ (p : SpelledPos). p) (λ (t : SpelledText). t) (λ (t : SpelledPath). t) (λ (x : Known). x.tree) says.parts in
     let known = mapped_has (shape_types says.parts) part (subst (λ (ts : List Tree). Contains ts part) trees has) in
     subst (IsOfFile src) known.2 (named_in_file src blocks block.0.start known.0 sound (All-contains (Names src blocks block.0.start) (shape_types says.parts) known.0 says.named known.1))
 

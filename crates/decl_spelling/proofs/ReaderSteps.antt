@@ -1,5 +1,5 @@
 -- Readers of three steps and more.
-use Rattle.std.proofs.Common.{◌≡◌, ◌≤◌, List, [], ◌++◌, length, Ok, sym, ap, subst, arith, None}
+use Rattle.std.proofs.Common.{◌≡◌, ◌≤◌, List, [], ◌++◌, length, Ok, sym, ap, subst, arith}
 use Rattle.wire_bytes.specs.Reading.{◌>>=◌}
 use Rattle.decl_spelling.specs.Reading.{Ahead, Reader}
 use Rattle.decl_spelling.specs.Grammar.{Here}
@@ -50,7 +50,7 @@ module _ {X Y Z W : Type 0} (p : Reader X) (q : Reader Y) (r : X → Ahead → Y
     where
       -- somewhere, since what stands doesn't depend on it
       nowhere : Here → Ahead
-      nowhere h = record { spot = record { end = 0; left = h.left }; before = record { place = h.before; name = None }; mentions = [] }
+      nowhere h = record { spot = record { end = 0; left = h.left }; before = h.before; mentions = [] }
 
   pub three_reads : {Given : Type 0} → Reads Given p F asks_x → Reads Given q G asks_y → ((x : X) (b : Ahead) (y : Y) → Reads Given (r x b y) (H x y) (asks_z x y))
       → ((x : X) (y : Y) (z : Z) → asks_x x ++ (asks_y y ++ asks_z x y z) ≡ all (make x y z))

@@ -183,28 +183,28 @@ module _ {X Z : Type 0} (p : Reader X) (q : X → Reader Z) (F : Here → X → 
   }
 
 -- a value that has to be there, for the number that was read, and what is read for it
-module _ {X V Z : Type 0} (p : Reader X) (fault : Ahead → X → ByteFault) (judge : X → Option V) (q : V → Reader Z) (F : Here → X → Here → Type 0) (G : V → Here → Z → Here → Type 0) (all : Z → List Ask) (T : Here → Z → Here → Type 0) where
+module _ {X V Z : Type 0} (p : Reader X) (fault : Ahead → X → ByteFault) (judge : X → Option V) (q : X → V → Reader Z) (F : Here → X → Here → Type 0) (G : X → V → Here → Z → Here → Type 0) (all : Z → List Ask) (T : Here → Z → Here → Type 0) where
   pub record Judged (a : Here) (z : Z) (b : Here) : Type 0 where
     pub x : X
     pub v : V
     pub next : Here
     pub first : F a x next
     pub judged : judge x ≡ Some v
-    pub second : G v next z b
+    pub second : G x v next z b
 
-  pub judged_reads : {Given : Type 0} → Reads Given p F nothing → ((v : V) → Reads Given (q v) (G v) all)
-      → (Given → (a : Here) (x : X) (b : Here) (v : V) (z : Z) (c : Here) → F a x b → judge x ≡ Some v → G v b z c → T a z c) → ((a : Here) (z : Z) (b : Here) → T a z b → Judged a z b)
-      → Reads Given (λ a. p a >>= λ x. or_stop a (fault a x.0) (judge x.0) >>= λ v. q v x.1) T all
+  pub judged_reads : {Given : Type 0} → Reads Given p F nothing → ((x : X) (v : V) → Reads Given (q x v) (G x v) all)
+      → (Given → (a : Here) (x : X) (b : Here) (v : V) (z : Z) (c : Here) → F a x b → judge x ≡ Some v → G x v b z c → T a z c) → ((a : Here) (z : Z) (b : Here) → T a z b → Judged a z b)
+      → Reads Given (λ a. p a >>= λ x. or_stop a (fault a x.0) (judge x.0) >>= λ v. q x.0 v x.1) T all
   judged_reads rp rq join split = record {
-    takes = λ given a fits. then_answers F nothing T all a a [] (p a) (λ x. or_stop a (fault a x.0) (judge x.0) >>= λ v. q v x.1) (went_nowhere a fits) (rp.takes given a fits)
-        (λ x b tx. judged_answers T all a (fault a x) (judge x) (λ v. q v b)
-        (λ v e. onward_answers (G v) all T a b (q v b) tx.went ((rq v).takes given b tx.went.fits) (λ z c tz tail. join given _ _ _ _ _ _ (tx.stands tail) e (tz.stands tail))));
+    takes = λ given a fits. then_answers F nothing T all a a [] (p a) (λ x. or_stop a (fault a x.0) (judge x.0) >>= λ v. q x.0 v x.1) (went_nowhere a fits) (rp.takes given a fits)
+        (λ x b tx. judged_answers T all a (fault a x) (judge x) (λ v. q x v b)
+        (λ v e. onward_answers (G x v) all T a b (q x v b) tx.went ((rq x v).takes given b tx.went.fits) (λ z c tz tail. join given _ _ _ _ _ _ (tx.stands tail) e (tz.stands tail))));
     again = λ a tail z after t le.
         let s = split (seen_from a tail) z after t in
-        let first = rp.again a tail s.x s.next s.first (omega (arith, le, (rq s.v).shrinks s.next z after s.second)) in
-        let second = (rq s.v).again first.0 tail z after (subst (λ m. G s.v m z after) first.2 s.second) le in
+        let first = rp.again a tail s.x s.next s.first (omega (arith, le, (rq s.x s.v).shrinks s.next z after s.second)) in
+        let second = (rq s.x s.v).again first.0 tail z after (subst (λ m. G s.x s.v m z after) first.2 s.second) le in
         (second.0, rw (first.1, s.judged) second.1, second.2);
-    shrinks = λ a z b t. let s = split a z b t in omega (arith, rp.shrinks a s.x s.next s.first, (rq s.v).shrinks s.next z b s.second);
+    shrinks = λ a z b t. let s = split a z b t in omega (arith, rp.shrinks a s.x s.next s.first, (rq s.x s.v).shrinks s.next z b s.second);
   }
 
 -- the same, where a test has to hold

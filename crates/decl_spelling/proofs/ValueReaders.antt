@@ -1,11 +1,10 @@
 -- The readers of constants' values.
-use Rattle.std.proofs.Common.{◌≡◌, ℕ, ◌*◌, Bool, true, false, cond, List, Result, Ok, Err, refl, sym, ap, subst, ◌∙◌, inl, inr}
+use Rattle.std.proofs.Common.{◌≡◌, ℕ, ◌*◌, Bool, true, false, cond, Result, Ok, Err, refl, sym, ap, subst, ◌∙◌, inl, inr}
 use Rattle.std.specs.Prelude.{ℤ, ◌==◌}
 use Rattle.std.proofs.lemmas.Bool.{eqb-true, eqb-false, eq-eqb}
 use Rattle.code_tables.specs.declared.predeclared.Basic.{Basic}
 use Rattle.code_tables.specs.declared.predeclared.Basic.TheVariants as b
-use Rattle.go_values.specs.declared.constants.Const.{Const}
-use Rattle.go_values.specs.declared.constants.Const.TheVariants.{Bool as truth, Int as whole, Str as text}
+use Rattle.go_values.specs.declared.constants.Const.TheVariants.{Bool as truth, Int as whole}
 use Rattle.wire_bytes.specs.declared.fault.ByteFault.TheVariants as faults
 use Rattle.wire_bytes.specs.Reading.{place}
 use Rattle.wire_bytes.specs.Begins.{Begins}
@@ -15,8 +14,9 @@ use Rattle.wire_bytes.proofs.Spellings.{IsBytes}
 use Rattle.wire_bytes.proofs.WholeSpellings.{whole_again}
 use Rattle.position_codec.proofs.PositionLemmas.{varint_at_again}
 use Rattle.decl_spelling.specs.Sections.{Sections}
+use Rattle.decl_spelling.specs.Spelled.{SpelledConst}
 use Rattle.decl_spelling.specs.Reading.{Ahead, Reader, Stopped, plain, truth_at, text_at}
-use Rattle.decl_spelling.specs.Constants.{Spelling, flag, offset, number, spelled, kind_of, kind_number, kind_given_at, kind_at, with_value, spelled_at, value_at}
+use Rattle.decl_spelling.specs.Constants.{Spelling, flag, offset, number, spelled, kind_of, kind_number, kind_given_at, kind_at, value_alone, text_value, with_value, spelled_at, value_at}
 use Rattle.decl_spelling.specs.Grammar.{Here, IsNumber, IsTruth, IsText}
 use Rattle.decl_spelling.specs.Spelling.{IsKind, IsSpelled}
 use Rattle.decl_spelling.proofs.Took.{seen_from, IsSpelling, IsValueOf}
@@ -66,44 +66,32 @@ kind_reads {Given} version spelling = by (version == 1) refl
 
 -- ---- the value
 
-module _ {X : Type 0} (make : X → Const) (p : Reader X) (F : Here → X → Here → Type 0) (T : Here → Const → Here → Type 0) where
+module _ {X : Type 0} (make : X → SpelledConst) (p : Reader X) (F : Here → X → Here → Type 0) (T : Here → SpelledConst → Here → Type 0) where
   value_answers : (a : Ahead) (r : Result (X × Ahead) Stopped) → ((a : Here) (x : X) (b : Here) → F a x b → T a (make x) b) → Answered F nothing a r → Answered T nothing a (with_value make r)
   value_answers a (Ok y) join h = record { stands = λ tail. join _ _ _ (h.stands tail); went = h.went }
   value_answers a (Err s) join h = h
 
   with_value_reads : {Given : Type 0} → Reads Given p F nothing → ((a : Here) (x : X) (b : Here) → F a x b → T a (make x) b)
-      → ((a : Here) (v : Const) (b : Here) → T a v b → (x : X) × (v ≡ make x) × F a x b) → Reads Given (λ a. with_value make (p a)) T nothing
+      → ((a : Here) (v : SpelledConst) (b : Here) → T a v b → (x : X) × (v ≡ make x) × F a x b) → Reads Given (λ a. with_value make (p a)) T nothing
   with_value_reads r join split = record {
     takes = λ given a fits. value_answers a (p a) join (r.takes given a fits);
     again = λ a tail v after w le.
         let s = split (seen_from a tail) v after w in
         let read = r.again a tail s.0 after s.2 le in
-        (read.0, ap (with_value make) read.1 ∙ ap (λ (v : Const). Ok (v, read.0)) (sym s.1), read.2);
+        (read.0, ap (with_value make) read.1 ∙ ap (λ (v : SpelledConst). Ok (v, read.0)) (sym s.1), read.2);
     shrinks = λ a v b w. let s = split a v b w in r.shrinks a s.0 b s.2;
   }
-
-flag_split : (src : Sections) (a : Here) (v : Const) (b : Here) → IsSpelled src flag a v b → (x : Bool) × (v ≡ truth x) × IsTruth a x b
-flag_split src a (truth x) b w = (x, refl, w)
-flag_split src a v b w = absurd w
-
-offset_split : (src : Sections) (a : Here) (v : Const) (b : Here) → IsSpelled src offset a v b → (x : List ℕ) × (v ≡ text x) × IsText src a x b
-offset_split src a (text x) b w = (x, refl, w)
-offset_split src a v b w = absurd w
 
 abbrev IsWhole : Bool → ℕ → Here → ℤ → Here → Type 0
 IsWhole signed max a x b = Begins (Whole signed max) a.left x b.left × (b.before ≡ a.before)
 
-number_split : (src : Sections) (signed : Bool) (max : ℕ) (a : Here) (v : Const) (b : Here) → IsSpelled src (number signed max) a v b → (x : ℤ) × (v ≡ whole x) × IsWhole signed max a x b
-number_split src signed max a (whole x) b w = (x, refl, w)
-number_split src signed max a v b w = absurd w
-
 spelled_reads : (src : Sections) (spelling : Spelling) → IsSpelling spelling → Reads (IsBytes src.strings) (spelled_at src spelling) (IsSpelled src spelling) nothing
-spelled_reads src flag is = with_value_reads truth truth_at IsTruth (IsSpelled src flag) truth_reads (λ a x b w. w) (flag_split src)
-spelled_reads src offset is = with_value_reads text (text_at src) (IsText src) (IsSpelled src offset) (text_reads src) (λ a x b w. w) (offset_split src)
+spelled_reads src flag is = with_value_reads (λ x. value_alone (truth x)) truth_at IsTruth (IsSpelled src flag) truth_reads (λ a x b w. (x, refl, w)) (λ a v b w. w)
+spelled_reads src offset is = with_value_reads text_value (text_at src) (IsText src) (IsSpelled src offset) (text_reads src) (λ a x b w. (x, refl, w)) (λ a v b w. w)
 spelled_reads src (number signed max) is =
-    with_value_reads whole (λ a. plain a (whole_at signed max a.spot)) (IsWhole signed max) (IsSpelled src (number signed max))
+    with_value_reads (λ x. value_alone (whole x)) (λ a. plain a (whole_at signed max a.spot)) (IsWhole signed max) (IsSpelled src (number signed max))
     (plain_reads (whole_at signed max) (Whole signed max) (λ given s v after fits e. whole_takes signed max s v after is fits e) (λ s v front rest spelled e. whole_again signed max s front rest v is spelled e))
-    (λ a x b w. w) (number_split src signed max)
+    (λ a x b w. (x, refl, w.0, w.1)) (λ a v b w. (w.0, w.1, (w.2, w.3)))
 
 pub value_reads : (src : Sections) (spelling : Spelling) → IsSpelling spelling → Reads (IsBytes src.strings) (value_at src spelling) (IsValueOf src spelling) nothing
 unfolding value_at

@@ -11,6 +11,7 @@ use Rattle.wire_bytes.specs.Varint.{number_of, varint_at}
 use Rattle.wire_bytes.specs.Whole.{whole_at}
 use Rattle.type_terms.specs.Trees.{Tree, predeclared, named, alias, instance}
 use Rattle.decl_spelling.specs.Sections.{Sections, Basics}
+use Rattle.decl_spelling.specs.Spelled.{SpelledText, SpelledConst}
 use Rattle.decl_spelling.specs.Reading.{Ahead, Reader, Stopped, plain, ask, truth_at, text_at}
 
 -- the predeclared type to which a type comes down
@@ -95,16 +96,24 @@ kind_given_at spelling a = do
 abbrev pub kind_at : ℕ → Spelling → Reader (Unit {0})
 kind_at version spelling a = cond (version == 1) (Ok (tt, a)) (kind_given_at spelling a)
 
-abbrev pub with_value : {X : Type 0} → (X → Const) → Result (X × Ahead) Stopped → Result (Const × Ahead) Stopped
+abbrev pub value_alone : Const → SpelledConst
+value_alone value = record { offset = None; value = value }
+
+abbrev pub text_value : SpelledText → SpelledConst
+text_value x = record { offset = x.offset; value = text x.text }
+
+abbrev pub with_value : {X : Type 0} → (X → SpelledConst) → Result (X × Ahead) Stopped
+    → Result (SpelledConst × Ahead) Stopped
 with_value make (Ok x) = Ok (make x.0, x.1)
 with_value make (Err s) = Err s
 
-abbrev pub spelled_at : Sections → Spelling → Reader Const
-spelled_at src flag a = with_value truth (truth_at a)
-spelled_at src offset a = with_value text (text_at src a)
-spelled_at src (number signed max) a = with_value whole (plain a (whole_at signed max a.spot))
+abbrev pub spelled_at : Sections → Spelling → Reader SpelledConst
+spelled_at src flag a = with_value (λ x. value_alone (truth x)) (truth_at a)
+spelled_at src offset a = with_value text_value (text_at src a)
+spelled_at src (number signed max) a =
+    with_value (λ x. value_alone (whole x)) (plain a (whole_at signed max a.spot))
 
-unfoldable pub value_at : Sections → Spelling → Reader Const
+unfoldable pub value_at : Sections → Spelling → Reader SpelledConst
 value_at src spelling a = do
   kind ← kind_at src.version spelling a
   spelled_at src spelling kind.1

@@ -1,6 +1,5 @@
 -- A declaration, as it is read.
-use Rattle.std.specs.Prelude.{◌≡◌, ℕ, List, [], length, Bool, true, false, Result, Ok, Err}
-use Rattle.go_values.specs.declared.positions.Pos.{Pos}
+use Rattle.std.specs.Prelude.{◌≡◌, ℕ, List, [], length, Bool, true, false, Result, Ok, Err, Option, None}
 use Rattle.code_tables.specs.declared.declarations.DeclTag.{DeclTag}
 use Rattle.code_tables.specs.declared.declarations.DeclTag.TheVariants.{Var, Func, GenericFunc, Const as ConstTag}
 use Rattle.code_tables.specs.declared.declarations.DeclTag.TheVariants.{Defined, GenericDefined, Alias, GenericAlias}
@@ -9,37 +8,39 @@ use Rattle.code_tables.specs.declared.predeclared.Basic.TheVariants.{Any as any_
 use Rattle.wire_bytes.specs.declared.fault.ByteFault.{ByteFault}
 use Rattle.wire_bytes.specs.declared.fault.ByteFault.TheVariants as faults
 use Rattle.wire_bytes.specs.Reading.{place, ◌>>=◌, byte_at}
-use Rattle.type_terms.specs.Trees.{Text, Tree, predeclared, interface}
-use Rattle.type_terms.specs.Declarations.{ReceiverOf, Form, var_of, function_of, constant_of, defined_of, renamed_of}
+use Rattle.type_terms.specs.Trees.{Tree, predeclared, interface}
+use Rattle.type_terms.specs.Declarations.{ReceiverOf, var_of, function_of, constant_of, defined_of, renamed_of}
 use Rattle.type_terms.specs.Declarations.{type_parameter_of, form_map, Decl}
 use Rattle.decl_spelling.specs.declared.mention.Demand.{Demand}
 use Rattle.decl_spelling.specs.declared.mention.Demand.TheVariants.{Any as any, Parameter, Underlying, NoParameter}
 use Rattle.decl_spelling.specs.declared.mention.Demand.TheVariants.{Interface}
 use Rattle.decl_spelling.specs.Sections.{Sections, Basics, window}
+use Rattle.decl_spelling.specs.Spelled.{SpelledText, SpelledPos, SpelledType, SpelledForm, SpelledDecl}
+use Rattle.decl_spelling.specs.Spelled.{form_meant}
 use Rattle.decl_spelling.specs.Codes.{decl_tag_of}
 use Rattle.decl_spelling.specs.Reading.{Ahead, Reader, Stopped, start, or_stop, plain, truth_at, text_at, pos_at}
 use Rattle.decl_spelling.specs.Reading.{type_at, list_at, some_at}
 use Rattle.decl_spelling.specs.Descriptors.{param_at, sig_at}
-use Rattle.decl_spelling.specs.Tables.{Table, type_named}
+use Rattle.decl_spelling.specs.Tables.{Table, type_spelled}
 use Rattle.decl_spelling.specs.Descent.{resolve_all, block_at}
 use Rattle.decl_spelling.specs.Constants.{basic_type, spelling_at, value_at}
 
--- a declaration with its types by their typeOffs
+-- what a declaration is spelled with, with its types by their typeOffs
 abbrev pub FlatForm : Type 0
-FlatForm = Form Pos Text ℕ
+FlatForm = SpelledForm SpelledType
 
 abbrev pub Receiver : Type 0
-Receiver = ReceiverOf Pos Text ℕ
+Receiver = ReceiverOf SpelledPos SpelledText SpelledType
 
 -- A declaration up to where its types decide what follows: nothing more; the methods of a defined type, if its
 -- underlying type isn't an interface; the value of a constant, by its type, whose typeOff stands at a place.
 pub data Head : Type 0 where
   whole : FlatForm → Head
-  of_type : Pos → List ℕ → ℕ → Head
-  of_constant : Pos → ℕ → ℕ → Head
+  of_type : SpelledPos → List SpelledType → SpelledType → Head
+  of_constant : SpelledPos → SpelledType → ℕ → Head
 
 -- a position, and what is made of it and of what follows
-abbrev pub tparams_at : Reader (List ℕ)
+abbrev pub tparams_at : Reader (List SpelledType)
 tparams_at a = some_at (type_at Parameter) a
 
 unfoldable pub var_at : Sections → Reader Head
@@ -149,37 +150,41 @@ has_methods (interface home embedded own) = false
 has_methods (predeclared any_type) = false
 has_methods _ = true
 
--- a declaration that was read, its end in the file, and the descriptors that it reaches
+-- a declaration that was read, the stringOff of a constant's value that is a text, its end in the file, and the
+-- descriptors that it reaches
 pub record Read : Type 0 where
   pub form : FlatForm
+  pub value : Option ℕ
   pub end : ℕ
   pub table : Table
 
-abbrev pub read : FlatForm → Ahead → Table → Result Read ByteFault
-read form a done = Ok (record { form = form; end = place a.spot; table = done })
+abbrev pub read : FlatForm → Option ℕ → Ahead → Table → Result Read ByteFault
+read form value a done = Ok (record { form = form; value = value; end = place a.spot; table = done })
 
-abbrev pub methods_of : Pos → List ℕ → ℕ → (List Receiver × Ahead) × Table → Result Read ByteFault
-methods_of pos tparams underlying x = read (defined_of pos tparams underlying (x.0).0) (x.0).1 x.1
+abbrev pub methods_of : SpelledPos → List SpelledType → SpelledType → (List Receiver × Ahead) × Table
+    → Result Read ByteFault
+methods_of pos tparams underlying x = read (defined_of pos tparams underlying (x.0).0) None (x.0).1 x.1
 
-abbrev pub after_type : Sections → ℕ → Pos → List ℕ → ℕ → Ahead → Table → Bool → Result Read ByteFault
+abbrev pub after_type : Sections → ℕ → SpelledPos → List SpelledType → SpelledType → Ahead → Table → Bool
+    → Result Read ByteFault
 after_type src offset pos tparams underlying a done true =
     resolved src offset (list_at (receiver_at src) a) done >>= methods_of pos tparams underlying
-after_type src offset pos tparams underlying a done false = read (defined_of pos tparams underlying []) a done
+after_type src offset pos tparams underlying a done false = read (defined_of pos tparams underlying []) None a done
 
 abbrev pub fault_alone : {X : Type 0} → Result X Stopped → Result X ByteFault
 fault_alone (Ok x) = Ok x
 fault_alone (Err stopped) = Err stopped.fault
 
-abbrev pub after_constant : Sections → Basics → Pos → ℕ → ℕ → Ahead → Table → Result Read ByteFault
+abbrev pub after_constant : Sections → Basics → SpelledPos → SpelledType → ℕ → Ahead → Table → Result Read ByteFault
 after_constant src basics pos type at a done = do
-  spelling ← spelling_at at (basic_type basics (type_named src.version done type))
+  spelling ← spelling_at at (basic_type basics (type_spelled src.version done type))
   value ← fault_alone (value_at src spelling a)
-  read (constant_of pos type value.0) value.1 done
+  read (constant_of pos type (value.0).value) (value.0).offset value.1 done
 
 abbrev pub after_head : Sections → Basics → ℕ → Head → Ahead → Table → Result Read ByteFault
-after_head src basics offset (whole form) a done = read form a done
+after_head src basics offset (whole form) a done = read form None a done
 after_head src basics offset (of_type pos tparams underlying) a done =
-    after_type src offset pos tparams underlying a done (has_methods (type_named src.version done underlying))
+    after_type src offset pos tparams underlying a done (has_methods (type_spelled src.version done underlying))
 after_head src basics offset (of_constant pos type at) a done = after_constant src basics pos type at a done
 
 -- the declaration at an offset
@@ -190,7 +195,11 @@ read_at src basics offset = do
 
 -- what was read
 abbrev pub decl_of : Sections → Read → Decl
-decl_of src x = form_map (λ pos. pos) (λ text. text) (type_named src.version x.table) x.form
+decl_of src x = form_meant (form_map (λ pos. pos) (λ text. text) (type_spelled src.version x.table) x.form)
+
+-- what it is spelled with
+abbrev pub spelled_of : Read → SpelledDecl
+spelled_of x = record { form = x.form; value = x.value }
 
 -- the declaration that is spelled at an offset, or the first fault
 abbrev pub decl_at : Sections → Basics → ℕ → Result Decl ByteFault

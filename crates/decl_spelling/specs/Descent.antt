@@ -7,8 +7,7 @@ use Rattle.code_tables.specs.Basic.{basic_code}
 use Rattle.wire_bytes.specs.declared.fault.ByteFault.{ByteFault}
 use Rattle.wire_bytes.specs.declared.fault.ByteFault.TheVariants as faults
 use Rattle.wire_bytes.specs.Reading.{place, ◌>>=◌, demand}
-use Rattle.type_terms.specs.Shapes.{retype}
-use Rattle.type_terms.specs.Trees.{Tree, predeclared, named, parameter, alias, instance, union, interface, tree_of}
+use Rattle.type_terms.specs.Trees.{Tree, predeclared, named, parameter, alias, instance, union, interface}
 use Rattle.decl_spelling.specs.declared.mention.TheConstants.{FIRST_DESCRIPTOR}
 use Rattle.decl_spelling.specs.declared.mention.Mention.{Mention}
 use Rattle.decl_spelling.specs.declared.mention.Demand.{Demand}
@@ -18,7 +17,7 @@ use Rattle.decl_spelling.specs.Sections.{Sections, window}
 use Rattle.decl_spelling.specs.Codes.{basic_of}
 use Rattle.decl_spelling.specs.Reading.{Ahead, Stopped, start}
 use Rattle.decl_spelling.specs.Descriptors.{Flat, flat_at}
-use Rattle.decl_spelling.specs.Tables.{Finished, Table, at, with_block, free_to, type_named}
+use Rattle.decl_spelling.specs.Tables.{Finished, Table, at, with_block, free_to, type_named, tree_spelled}
 
 -- ---- what a holder asks of a type
 
@@ -114,7 +113,7 @@ abbrev pub finish : Sections → ReadsBlock → ℕ → Result (Flat × Ahead) S
 finish src read offset (Ok x) done = do
   known ← resolve_all src read offset (x.1).mentions done
   Ok (with_block known offset
-      (record { end = offset_of src x.1; tree = tree_of (retype (type_named src.version known) x.0) }))
+      (record { end = offset_of src x.1; tree = tree_spelled src.version known x.0 }))
 finish src read offset (Err stopped) done = do
   known ← resolve_all src read offset stopped.mentions done
   Err stopped.fault

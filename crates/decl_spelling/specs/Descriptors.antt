@@ -1,31 +1,40 @@
 -- Descriptors of types: what stands in a block behind its tag. A type that stands in another one is its typeOff.
-use Rattle.std.specs.Prelude.{ℕ, ◌^◌, List, [], ◌∷◌, Bool, false, Ok, nat_lt}
-use Rattle.go_values.specs.declared.positions.Pos.{Pos}
+use Rattle.std.specs.Prelude.{◌^◌, List, [], ◌∷◌, Bool, false, Ok, nat_lt}
 use Rattle.code_tables.specs.declared.descriptors.TypeTag.{TypeTag}
 use Rattle.code_tables.specs.declared.descriptors.TypeTag.TheVariants.{Defined, Pointer, Slice, Array, Chan, Map}
 use Rattle.code_tables.specs.declared.descriptors.TypeTag.TheVariants.{Signature, Struct, Interface, TypeParameter}
 use Rattle.code_tables.specs.declared.descriptors.TypeTag.TheVariants.{Instance, Union, Alias}
 use Rattle.wire_bytes.specs.declared.fault.ByteFault.TheVariants as faults
 use Rattle.wire_bytes.specs.Reading.{place, ◌>>=◌}
-use Rattle.type_terms.specs.Trees.{Text}
-use Rattle.type_terms.specs.Shapes.{ParamOf, SigOf, OriginOf, FieldOf, MethodOf, TermOf, Shape, named_of, parameter_of}
+use Rattle.type_terms.specs.Shapes.{ParamOf, SigOf, FieldOf, MethodOf, TermOf, named_of, parameter_of}
 use Rattle.type_terms.specs.Shapes.{alias_of, pointer_of, slice_of, array_of, chan_of, map_of, func_of, struct_of}
 use Rattle.type_terms.specs.Shapes.{interface_of, instance_of, union_of}
 use Rattle.decl_spelling.specs.declared.mention.Demand.TheVariants.{Any, Base}
 use Rattle.decl_spelling.specs.Sections.{Sections}
+use Rattle.decl_spelling.specs.Spelled.{SpelledText, SpelledPath, SpelledPos, SpelledType, SpelledShape, with_pos}
+use Rattle.decl_spelling.specs.Spelled.{no_origin}
 use Rattle.decl_spelling.specs.Codes.{type_tag_of, dir_of}
 use Rattle.decl_spelling.specs.Reading.{Reader, ask, or_stop, number_at, truth_at, text_at, path_at, pos_at, type_at}
 use Rattle.decl_spelling.specs.Reading.{list_at, some_at}
 
--- what stands in a descriptor, with types by their typeOffs
+-- what a descriptor is spelled with, with types by their typeOffs
 abbrev pub Flat : Type 0
-Flat = Shape Pos Text Text ℕ
+Flat = SpelledShape SpelledType
 
 abbrev pub Param : Type 0
-Param = ParamOf Pos Text ℕ
+Param = ParamOf SpelledPos SpelledText SpelledType
 
 abbrev pub Sig : Type 0
-Sig = SigOf Pos Text ℕ
+Sig = SigOf SpelledPos SpelledText SpelledType
+
+abbrev pub Field : Type 0
+Field = FieldOf SpelledPos SpelledText SpelledPath SpelledType
+
+abbrev pub Method : Type 0
+Method = MethodOf SpelledPos SpelledText SpelledPath SpelledType
+
+abbrev pub Term : Type 0
+Term = TermOf SpelledType
 
 -- a position, a name and a type
 unfoldable pub param_at : Sections → Reader Param
@@ -48,11 +57,7 @@ sig_at src a = do
   variadic ← variadic_at params.0 results.1
   Ok (record { params = params.0; results = results.0; variadic = variadic.0 }, variadic.1)
 
--- only literals of other packages in shallow files have an origin
-abbrev pub no_origin : OriginOf Text Text
-no_origin = record { text = []; path = [] }
-
-unfoldable pub field_at : Sections → Reader (FieldOf Pos Text Text ℕ)
+unfoldable pub field_at : Sections → Reader Field
 field_at src a = do
   pos ← pos_at src a
   name ← text_at src pos.1
@@ -64,20 +69,20 @@ field_at src a = do
     tag.1,
   )
 
-unfoldable pub method_at : Sections → Reader (MethodOf Pos Text Text ℕ)
+unfoldable pub method_at : Sections → Reader Method
 method_at src a = do
   pos ← pos_at src a
   name ← text_at src pos.1
   sig ← sig_at src name.1
   Ok (record { origin = no_origin; pos = pos.0; name = name.0; sig = sig.0 }, sig.1)
 
--- the position of an embedded type isn't kept
-unfoldable pub embedded_at : Sections → Reader ℕ
+unfoldable pub embedded_at : Sections → Reader SpelledType
 embedded_at src a = do
   pos ← pos_at src a
-  type_at Any pos.1
+  type ← type_at Any pos.1
+  Ok (with_pos pos.0 type.0, type.1)
 
-unfoldable pub term_at : Reader (TermOf ℕ)
+unfoldable pub term_at : Reader Term
 term_at a = do
   tilde ← truth_at a
   type ← type_at Any tilde.1
@@ -86,13 +91,13 @@ term_at a = do
 -- ---- a case for each tag
 
 -- a name and the path of its package
-unfoldable pub qualified_at : Sections → (Text → Text → Flat) → Reader Flat
+unfoldable pub qualified_at : Sections → (SpelledText → SpelledPath → Flat) → Reader Flat
 qualified_at src make a = do
   name ← text_at src a
   path ← path_at src name.1
   Ok (make name.0 path.0, path.1)
 
-unfoldable pub element_at : (ℕ → Flat) → Reader Flat
+unfoldable pub element_at : (SpelledType → Flat) → Reader Flat
 element_at make a = do
   type ← type_at Any a
   Ok (make type.0, type.1)
@@ -137,13 +142,13 @@ interface_at src a = do
   methods ← list_at (method_at src) embedded.1
   Ok (interface_of home.0 embedded.0 methods.0, methods.1)
 
--- the position isn't kept
+-- the base has the position
 unfoldable pub instance_at : Sections → Reader Flat
 instance_at src a = do
   pos ← pos_at src a
   args ← some_at (type_at Any) pos.1
   base ← type_at Base args.1
-  Ok (instance_of base.0 args.0, base.1)
+  Ok (instance_of (with_pos pos.0 base.0) args.0, base.1)
 
 unfoldable pub union_at : Reader Flat
 union_at a = do

@@ -3,15 +3,14 @@
 use Rattle.std.specs.Prelude.{ℕ, zero, suc, ◌-◌, List, [], ◌∷◌, ◌++◌, Bool, true, false, not, Result, Ok, Err}
 use Rattle.std.specs.Prelude.{cond, nat_lt, length, is_some}
 use Rattle.wire_bytes.specs.declared.fault.ByteFault.{ByteFault}
-use Rattle.type_terms.specs.Shapes.{retype}
-use Rattle.type_terms.specs.Trees.{Tree, tree_of}
+use Rattle.type_terms.specs.Trees.{Tree}
 use Rattle.type_terms.specs.Declarations.{Decl, form_types}
 use Rattle.decl_spelling.specs.declared.mention.TheConstants.{FIRST_DESCRIPTOR}
 use Rattle.decl_spelling.specs.declared.mention.Mention.{Mention}
 use Rattle.decl_spelling.specs.Sections.{Sections, Basics, window}
 use Rattle.decl_spelling.specs.Reading.{Ahead, Stopped, start, list_at}
 use Rattle.decl_spelling.specs.Descriptors.{Flat, flat_at}
-use Rattle.decl_spelling.specs.Tables.{Table, at, free_to, type_named}
+use Rattle.decl_spelling.specs.Tables.{Table, at, free_to, type_spelled, tree_spelled}
 use Rattle.decl_spelling.specs.Descent.{ReadsBlock, resolve, resolve_all, block_at}
 use Rattle.decl_spelling.specs.Declarations.{Head, whole, of_type, of_constant, head_at, receiver_at, resolved}
 use Rattle.decl_spelling.specs.Declarations.{has_methods, decl_at}
@@ -46,7 +45,7 @@ abbrev pub left_by_block : Sections → ReadsBlock → LeavesBlock → ℕ → R
 left_by_block src read leaves offset (Ok x) done =
     left_by_types src read leaves offset (x.1).mentions done
     ++ if_well (resolve_all src read offset (x.1).mentions done)
-    (λ known. tree_of (retype (type_named src.version known) x.0) ∷ [])
+    (λ known. tree_spelled src.version known x.0 ∷ [])
 left_by_block src read leaves offset (Err stopped) done = left_by_types src read leaves offset stopped.mentions done
 
 -- The number bounds the offsets.
@@ -73,7 +72,7 @@ left_by_methods src offset a done false = []
 abbrev pub left_after_head : Sections → ℕ → Head → Ahead → Table → List Tree
 left_after_head src offset (whole form) a done = []
 left_after_head src offset (of_type pos tparams underlying) a done =
-    left_by_methods src offset a done (has_methods (type_named src.version done underlying))
+    left_by_methods src offset a done (has_methods (type_spelled src.version done underlying))
 left_after_head src offset (of_constant pos type at) a done = []
 
 -- by all that is read of it

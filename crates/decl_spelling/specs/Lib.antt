@@ -1,4 +1,5 @@
 pub mod Sections
+pub mod Spelled
 pub mod Reading
 pub mod Codes
 pub mod Descriptors

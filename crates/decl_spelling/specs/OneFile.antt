@@ -1,5 +1,5 @@
 -- What one file has: each type that is read of it is named by a number, and a number names one type.
-use Rattle.std.specs.Prelude.{ℕ, ◌+◌, ◌<◌, List, length}
+use Rattle.std.specs.Prelude.{ℕ, ◌+◌, ◌<◌, List, length, None}
 use Rattle.type_terms.specs.Trees.{Tree}
 use Rattle.type_terms.specs.Denotation.{tree}
 use Rattle.type_terms.specs.Arenas.{Contents}
@@ -11,7 +11,7 @@ use Rattle.decl_spelling.specs.Spelling.{Block, Sound, Names}
 abbrev pub NamesType : Sections → ℕ → Tree → Type 0
 NamesType src number type =
     (blocks : List Block) × Sound src blocks
-    × Names src blocks (length src.body) (record { number = number; tree = type })
+    × Names src blocks (length src.body) (record { number = number; pos = None; tree = type })
 
 abbrev pub IsOfFile : Sections → Tree → Type 0
 IsOfFile src type = (number : ℕ) × NamesType src number type

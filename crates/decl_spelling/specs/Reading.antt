@@ -3,7 +3,6 @@
 -- that were named before are known.
 use Rattle.std.specs.Prelude.{ℕ, zero, suc, List, [], ◌∷◌, ◌++◌, Bool, true, false, Result, Ok, Err, Option, Some, None}
 use Rattle.std.specs.Prelude.{nat_lt}
-use Rattle.go_values.specs.declared.positions.Pos.{Pos}
 use Rattle.wire_bytes.specs.declared.fault.ByteFault.{ByteFault}
 use Rattle.wire_bytes.specs.declared.fault.ByteFault.TheVariants as faults
 use Rattle.wire_bytes.specs.Reading.{Spot, place, ◌>>=◌}
@@ -16,6 +15,7 @@ use Rattle.file_parts.specs.Paths.{path_in}
 use Rattle.decl_spelling.specs.declared.mention.Mention.{Mention}
 use Rattle.decl_spelling.specs.declared.mention.Demand.{Demand}
 use Rattle.decl_spelling.specs.Sections.{Sections}
+use Rattle.decl_spelling.specs.Spelled.{SpelledText, SpelledPath, SpelledPos, SpelledType, without_pos}
 
 -- what is left of a block, the place before its next position, and the types that it has named so far
 pub record Ahead : Type 0 where
@@ -64,25 +64,30 @@ abbrev pub truth_at : Reader Bool
 truth_at a = plain a (flag_at a.spot)
 
 -- a text of the string section, by its offset
-unfoldable pub text_at : Sections → Reader (List ℕ)
+unfoldable pub text_at : Sections → Reader SpelledText
 text_at src a = do
   offset ← number_at a
   text ← or_stop a (faults.Range (place a.spot) offset.0) (text_in src.strings offset.0)
-  Ok (text, offset.1)
+  Ok (record { offset = Some offset.0; text = text }, offset.1)
 
 -- the path of a package, which is the file's own or one that its index lists
-unfoldable pub path_at : Sections → Reader (List ℕ)
+unfoldable pub path_at : Sections → Reader SpelledPath
 path_at src a = do
   offset ← number_at a
   path ← or_stop a (faults.Range (place a.spot) offset.0) (path_in src.strings src.own src.paths offset.0)
-  Ok (path, offset.1)
+  Ok (record { offset = Some offset.0; path = path }, offset.1)
 
-abbrev pub placed : Ahead → Result (Named × Spot) ByteFault → Result (Pos × Ahead) Stopped
-placed a (Ok x) = Ok (pos_of (x.0).place, record { spot = x.1; before = moved_on a.before x.0; mentions = a.mentions })
+-- a place that follows the one before it, with the name that its file then has
+abbrev pub pos_after : Named → Named → SpelledPos
+pos_after before now = record { pos = pos_of now.place; file = (moved_on before now).name }
+
+abbrev pub placed : Ahead → Result (Named × Spot) ByteFault → Result (SpelledPos × Ahead) Stopped
+placed a (Ok x) =
+    Ok (pos_after a.before x.0, record { spot = x.1; before = moved_on a.before x.0; mentions = a.mentions })
 placed a (Err f) = stop a f
 
 -- a position, spelled after the one before it in the block
-abbrev pub pos_at : Sections → Reader Pos
+abbrev pub pos_at : Sections → Reader SpelledPos
 pos_at src a = placed a (position_at src.strings a.before.place a.spot)
 
 -- what is ahead of a typeOff that was read, which is noted with what is asked of its type
@@ -95,10 +100,10 @@ mentioned asked a number =
     }
 
 -- a typeOff; what it names, and whether that is what its holder asks for, comes later
-unfoldable pub type_at : Demand → Reader ℕ
+unfoldable pub type_at : Demand → Reader SpelledType
 type_at asked a = do
   number ← number_at a
-  Ok (number.0, mentioned asked a number)
+  Ok (without_pos number.0, mentioned asked a number)
 
 -- so many things, one after the other
 unfoldable pub times : {X : Type 0} → Reader X → ℕ → Reader (List X)

@@ -1,10 +1,8 @@
 -- Which bytes spell a declaration: blocks that explain each other.
 use Rattle.std.specs.Prelude.{◌≡◌, ◌≢◌, ℕ, ◌+◌, ◌*◌, ◌<◌, ◌≤◌, ◌⊎◌, List, [], ◌∷◌, Bool, true, false, IsTrue, length}
-use Rattle.std.specs.Prelude.{drop, Some, map}
+use Rattle.std.specs.Prelude.{drop, Option, Some, None, map, ℤ}
 use Rattle.std.specs.List.{Contains, All}
-use Rattle.go_values.specs.declared.positions.Pos.{Pos}
-use Rattle.go_values.specs.declared.constants.Const.{Const}
-use Rattle.go_values.specs.declared.constants.Const.TheVariants.{Bool as truth, Int as whole, Str as text}
+use Rattle.go_values.specs.declared.constants.Const.TheVariants.{Bool as truth, Int as whole}
 use Rattle.code_tables.specs.declared.declarations.DeclTag.{DeclTag}
 use Rattle.code_tables.specs.declared.declarations.DeclTag.TheVariants.{Var, Func, GenericFunc, Const as ConstTag}
 use Rattle.code_tables.specs.declared.declarations.DeclTag.TheVariants.{Defined, GenericDefined, Alias, GenericAlias}
@@ -12,19 +10,23 @@ use Rattle.code_tables.specs.declared.declarations.DeclTag.TheVariants.{TypePara
 use Rattle.code_tables.specs.DeclTag.{decl_tag_code}
 use Rattle.wire_bytes.specs.Begins.{Begins}
 use Rattle.wire_bytes.specs.Whole.{Whole}
-use Rattle.position_codec.specs.Place.{no_place}
-use Rattle.type_terms.specs.Shapes.{Shape, SigOf, instance_of, sig_map, shape_types, retype}
-use Rattle.type_terms.specs.Trees.{Text, Tree, predeclared, tree_of}
-use Rattle.type_terms.specs.Declarations.{ReceiverOf, Form, var_of, function_of, constant_of, defined_of, renamed_of}
+use Rattle.position_codec.specs.Place.{Named, no_place}
+use Rattle.type_terms.specs.Shapes.{SigOf, instance_of, sig_map, shape_types, retype}
+use Rattle.type_terms.specs.Trees.{Tree, predeclared, tree_of}
+use Rattle.type_terms.specs.Declarations.{ReceiverOf, var_of, function_of, constant_of, defined_of, renamed_of}
 use Rattle.type_terms.specs.Declarations.{type_parameter_of, receiver_map, form_map, form_types, Decl}
 use Rattle.decl_spelling.specs.declared.mention.TheConstants.{FIRST_DESCRIPTOR}
 use Rattle.decl_spelling.specs.Sections.{Sections, Basics}
+use Rattle.decl_spelling.specs.Spelled.{SpelledText, SpelledPos, SpelledType, SpelledConst, SpelledShape, SpelledForm}
+use Rattle.decl_spelling.specs.Spelled.{SpelledDecl, meant, form_meant}
 use Rattle.decl_spelling.specs.Codes.{basic_of, decl_tag_of}
-use Rattle.decl_spelling.specs.Descriptors.{Sig}
+use Rattle.decl_spelling.specs.Descriptors.{Flat, Sig}
 use Rattle.decl_spelling.specs.Descent.{is_parameter, is_interface, is_underlying, is_generic}
 use Rattle.decl_spelling.specs.Constants.{Spelling, flag, offset, number, spelled, kind_of, kind_number, basic_type}
+use Rattle.decl_spelling.specs.Constants.{value_alone, text_value}
 use Rattle.decl_spelling.specs.Declarations.{has_methods, Receiver}
-use Rattle.decl_spelling.specs.Grammar.{Here, IsNumber, IsTruth, IsText, IsPos, IsList, IsParam, IsSig, IsDescriptor}
+use Rattle.decl_spelling.specs.Grammar.{Here, IsNumber, IsTruth, IsText, IsPos, IsType, IsList, IsParam, IsSig}
+use Rattle.decl_spelling.specs.Grammar.{IsDescriptor}
 
 -- a descriptor: where it starts and ends in the data section, and the type that it spells
 pub record Block : Type 0 where
@@ -32,10 +34,15 @@ pub record Block : Type 0 where
   pub end : ℕ
   pub tree : Tree
 
--- a typeOff, and the type that it names
+-- a typeOff, its position where it has one, and the type that it names
 pub record Known : Type 0 where
   pub number : ℕ
+  pub pos : Option SpelledPos
   pub tree : Tree
+
+-- as it is spelled
+abbrev pub number_of : Known → SpelledType
+number_of x = record { number = x.number; pos = x.pos }
 
 -- the number is the code of a predeclared type
 abbrev pub NamesBasic : Sections → Known → Type 0
@@ -55,23 +62,31 @@ Names src blocks holder x = NamesBasic src x ⊎ NamesBlock blocks holder x
 abbrev pub AllNamed : Sections → List Block → ℕ → List Known → Type 0
 AllNamed src blocks holder = All (Names src blocks holder)
 
+-- no position was spelled before
+abbrev pub nowhere : Named
+nowhere = record { place = no_place; name = None }
+
 -- the bytes of the data section from an offset on
 abbrev pub here : Sections → ℕ → Here
-here src start = record { left = drop start src.body; before = no_place }
+here src start = record { left = drop start src.body; before = nowhere }
 
-abbrev pub IsInstanceOf : Shape Pos Text Text Known → Type 0
+abbrev pub IsInstanceOf : SpelledShape Known → Type 0
 IsInstanceOf (instance_of base args) = IsTrue (is_generic base.tree)
 IsInstanceOf _ = Unit {0}
 
 -- The bytes of the block spell its type, with the other blocks.
 pub record Says (src : Sections) (blocks : List Block) (block : Block) : Type 0 where
-  pub parts : Shape Pos Text Text Known
+  pub parts : SpelledShape Known
   pub after : Here
-  pub stands : IsDescriptor src (here src block.start) (retype (λ x. x.number) parts) after
+  pub stands : IsDescriptor src (here src block.start) (retype number_of parts) after
   pub ends : block.end + length after.left ≡ length src.body
-  pub type : block.tree ≡ tree_of (retype (λ x. x.tree) parts)
+  pub type : block.tree ≡ tree_of (meant (retype (λ x. x.tree) parts))
   pub named : AllNamed src blocks block.start (shape_types parts)
   pub generic : IsInstanceOf parts
+
+-- what the block is spelled with
+abbrev pub block_spelled : {src : Sections} {blocks : List Block} {block : Block} → Says src blocks block → Flat
+block_spelled says = retype number_of says.parts
 
 -- any two are the same, or share no byte
 abbrev pub Apart : List Block → Type 0
@@ -84,24 +99,21 @@ pub record Sound (src : Sections) (blocks : List Block) : Type 0 where
 -- ---- declarations, a case for each kind
 
 abbrev pub KnownForm : Type 0
-KnownForm = Form Pos Text Known
+KnownForm = SpelledForm Known
 
-abbrev pub numbers : List Known → List ℕ
-numbers xs = map (λ x. x.number) xs
+abbrev pub numbers : List Known → List SpelledType
+numbers xs = map number_of xs
 
-abbrev pub number_of : Known → ℕ
-number_of x = x.number
-
-abbrev pub same_pos : Pos → Pos
+abbrev pub same_pos : SpelledPos → SpelledPos
 same_pos pos = pos
 
-abbrev pub same_text : Text → Text
+abbrev pub same_text : SpelledText → SpelledText
 same_text x = x
 
-abbrev pub numbered : SigOf Pos Text Known → Sig
+abbrev pub numbered : SigOf SpelledPos SpelledText Known → Sig
 numbered sig = sig_map same_pos same_text same_text number_of sig
 
-abbrev pub numbered_receiver : ReceiverOf Pos Text Known → Receiver
+abbrev pub numbered_receiver : ReceiverOf SpelledPos SpelledText Known → Receiver
 numbered_receiver method = receiver_map same_pos same_text number_of method
 
 abbrev pub AreParameters : List Known → Type 0
@@ -109,7 +121,7 @@ AreParameters tparams = (0 < length tparams) × All (λ x. IsTrue (is_parameter 
 
 -- behind a position, at least one type parameter
 abbrev pub IsTParams : Here → List Known → Here → Type 0
-IsTParams a tparams b = IsList IsNumber a (numbers tparams) b × AreParameters tparams
+IsTParams a tparams b = IsList IsType a (numbers tparams) b × AreParameters tparams
 
 pub record IsReceiver (src : Sections) (a : Here) (x : Receiver) (b : Here) : Type 0 where
   pub at_name : Here
@@ -126,17 +138,18 @@ IsMethods src true a methods b = IsList (IsReceiver src) a methods b
 IsMethods src false a methods b = (methods ≡ []) × (a ≡ b)
 
 -- the value of a constant, by how values of its type are spelled
-abbrev pub IsSpelled : Sections → Spelling → Here → Const → Here → Type 0
-IsSpelled src flag a (truth x) b = IsTruth a x b
-IsSpelled src offset a (text x) b = IsText src a x b
-IsSpelled src (number signed max) a (whole x) b = Begins (Whole signed max) a.left x b.left × (b.before ≡ a.before)
-IsSpelled src spelling a value b = ⊥
+abbrev pub IsSpelled : Sections → Spelling → Here → SpelledConst → Here → Type 0
+IsSpelled src flag a value b = (x : Bool) × (value ≡ value_alone (truth x)) × IsTruth a x b
+IsSpelled src offset a value b = (x : SpelledText) × (value ≡ text_value x) × IsText src a x b
+IsSpelled src (number signed max) a value b =
+    (x : ℤ) × (value ≡ value_alone (whole x)) × Begins (Whole signed max) a.left x b.left × (b.before ≡ a.before)
 
 -- From version 2 on the number of its kind, doubled as a signed number is, stands before it.
 abbrev pub IsKind : ℕ → Spelling → Here → Here → Type 0
 IsKind version spelling a b = ((version ≡ 1) × (a ≡ b)) ⊎ ((version ≢ 1) × IsNumber a (2 * kind_number spelling) b)
 
-pub record IsValue (src : Sections) (basics : Basics) (type : Tree) (a : Here) (value : Const) (b : Here) : Type 0 where
+pub record IsValue (src : Sections) (basics : Basics) (type : Tree) (a : Here) (value : SpelledConst) (b : Here) :
+    Type 0 where
   pub basic : _
   pub spelling : Spelling
   pub at_value : Here
@@ -155,25 +168,29 @@ abbrev pub IsRightSide : List Known → Tree → Type 0
 IsRightSide [] tree = Unit {0}
 IsRightSide (tparam ∷ tparams) tree = is_parameter tree ≡ false
 
-abbrev pub IsForm : Sections → Basics → Here → KnownForm → Here → Type 0
-IsForm src basics a (var_of pos type) b = (next : Here) × IsPos src a pos next × IsNumber next type.number b
-IsForm src basics a (function_of pos tparams sig) b =
+-- with the stringOff of a constant's value that is a text
+abbrev pub IsForm : Sections → Basics → Here → KnownForm → Option ℕ → Here → Type 0
+IsForm src basics a (var_of pos type) text_offset b =
+    (next : Here) × IsPos src a pos next × IsType next (number_of type) b × (text_offset ≡ None)
+IsForm src basics a (function_of pos tparams sig) text_offset b =
     (at_tparams at_sig : Here) × IsPos src a pos at_tparams × IsGenericList at_tparams tparams at_sig
-    × IsSig src at_sig (numbered sig) b
-IsForm src basics a (constant_of pos type value) b =
-    (at_type at_value : Here) × IsPos src a pos at_type × IsNumber at_type type.number at_value
-    × IsValue src basics type.tree at_value value b
-IsForm src basics a (defined_of pos tparams underlying methods) b =
+    × IsSig src at_sig (numbered sig) b × (text_offset ≡ None)
+IsForm src basics a (constant_of pos type value) text_offset b =
+    (at_type at_value : Here) × IsPos src a pos at_type × IsType at_type (number_of type) at_value
+    × IsValue src basics type.tree at_value (record { offset = text_offset; value = value }) b
+IsForm src basics a (defined_of pos tparams underlying methods) text_offset b =
     (at_tparams at_type at_methods : Here) × IsPos src a pos at_tparams × IsGenericList at_tparams tparams at_type
-    × IsNumber at_type underlying.number at_methods
+    × IsType at_type (number_of underlying) at_methods
     × IsTrue (is_underlying underlying.tree)
     × IsMethods src (has_methods underlying.tree) at_methods (map numbered_receiver methods) b
-IsForm src basics a (renamed_of pos tparams type) b =
+    × (text_offset ≡ None)
+IsForm src basics a (renamed_of pos tparams type) text_offset b =
     (at_tparams at_type : Here) × IsPos src a pos at_tparams × IsGenericList at_tparams tparams at_type
-    × IsNumber at_type type.number b × IsRightSide tparams type.tree
-IsForm src basics a (type_parameter_of pos implicit constraint) b =
+    × IsType at_type (number_of type) b × IsRightSide tparams type.tree × (text_offset ≡ None)
+IsForm src basics a (type_parameter_of pos implicit constraint) text_offset b =
     (at_flag at_type : Here) × IsPos src a pos at_flag × IsTruth at_flag implicit at_type
-    × IsNumber at_type constraint.number b × (IsTrue implicit → IsTrue (is_interface constraint.tree))
+    × IsType at_type (number_of constraint) b × (IsTrue implicit → IsTrue (is_interface constraint.tree))
+    × (text_offset ≡ None)
 
 -- the kind of a declaration; a function, a defined type and an alias with type parameters have kinds of their own
 abbrev pub generic_or : {X : Type 0} → List X → DeclTag → DeclTag → DeclTag
@@ -194,10 +211,16 @@ pub record SpellsDecl (src : Sections) (basics : Basics) (start : ℕ) (decl : D
   pub blocks : List Block
   pub sound : Sound src blocks
   pub parts : KnownForm
+  pub value : Option ℕ
   pub rest : List ℕ
   pub after : Here
   pub kind : drop start src.body ≡ decl_tag_code (kind_of_decl parts) ∷ rest
   pub known : decl_tag_of src.version (decl_tag_code (kind_of_decl parts)) ≡ Some (kind_of_decl parts)
-  pub stands : IsForm src basics (record { left = rest; before = no_place }) parts after
+  pub stands : IsForm src basics (record { left = rest; before = nowhere }) parts value after
   pub named : AllNamed src blocks start (form_types parts)
-  pub meant : decl ≡ form_map same_pos same_text (λ x. x.tree) parts
+  pub meant : decl ≡ form_meant (form_map same_pos same_text (λ x. x.tree) parts)
+
+-- what the declaration is spelled with
+abbrev pub spelled_with : {src : Sections} {basics : Basics} {start : ℕ} {decl : Decl}
+    → SpellsDecl src basics start decl → SpelledDecl
+spelled_with spells = record { form = form_map same_pos same_text number_of spells.parts; value = spells.value }

@@ -6,9 +6,11 @@ use Rattle.std.specs.Ordering.{is_eq}
 use Rattle.std.specs.BTreeMap.{insert_entry}
 use Rattle.code_tables.specs.declared.predeclared.Basic.{Basic}
 use Rattle.code_tables.specs.declared.predeclared.Basic.TheVariants.{Bool as bool_type}
-use Rattle.type_terms.specs.Trees.{Tree, predeclared}
+use Rattle.type_terms.specs.Shapes.{retype}
+use Rattle.type_terms.specs.Trees.{Tree, predeclared, tree_of}
 use Rattle.decl_spelling.specs.declared.mention.TheConstants.{FIRST_DESCRIPTOR}
 use Rattle.decl_spelling.specs.Codes.{basic_of}
+use Rattle.decl_spelling.specs.Spelled.{SpelledType, SpelledShape, meant}
 
 -- where a descriptor ends in the data section, and the type that it spells
 pub record Finished : Type 0 where
@@ -45,3 +47,11 @@ abbrev pub type_named : ℕ → Table → ℕ → Tree
 type_named version done number =
     cond (nat_lt number FIRST_DESCRIPTOR) (basic_tree (basic_of version number))
     (finished_tree (at done (number - FIRST_DESCRIPTOR)))
+
+-- the same of a type that stands in a block
+abbrev pub type_spelled : ℕ → Table → SpelledType → Tree
+type_spelled version done type = type_named version done type.number
+
+-- the type that a descriptor with these parts spells
+abbrev pub tree_spelled : ℕ → Table → SpelledShape SpelledType → Tree
+tree_spelled version done shape = tree_of (meant (retype (type_spelled version done) shape))

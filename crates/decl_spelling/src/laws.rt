@@ -8,19 +8,22 @@ ghost use Rattle.type_terms.specs.Declarations.{Decl};
 ghost use Rattle.type_terms.specs.Arenas.{Contents, Extends};
 ghost use Rattle.type_terms.specs.Additions.{StandsIn, AddsOnly, Outgrows};
 ghost use Rattle.decl_spelling.specs.Sections.{Sections, Basics, HoldsBytes};
-ghost use Rattle.decl_spelling.specs.Declarations.{decl_at, FirstFault};
+ghost use Rattle.decl_spelling.specs.Declarations.{Read, read_at, decl_of, spelled_of, decl_at, FirstFault};
 ghost use Rattle.decl_spelling.specs.Leaving.{types_read};
-ghost use Rattle.decl_spelling.specs.Spelling.{Block, Sound, SpellsDecl};
+ghost use Rattle.decl_spelling.specs.Spelling.{Block, Says, block_spelled, Sound, SpellsDecl, spelled_with};
 ghost use Rattle.decl_spelling.specs.OneFile.{NamesType, IsOfFile, type_count, HoldsTypesOf};
 
-/// At an offset a declaration is spelled, or the bytes there have a first fault; it is one declaration at the most and
-/// one first fault at the most, and never both.
+/// At an offset a declaration is spelled, or the bytes there have a first fault; it is one declaration at the most,
+/// spelled with one list of parts, and one first fault at the most, and never both.
 pub fn declaration_or_fault()
     ensures either { (src : Sections) (basics : Basics) → HoldsBytes src → (offset : ℕ)
         → ((decl : Decl) × SpellsDecl src basics offset decl)
         ⊎ ((fault : ByteFault) × FirstFault src basics offset fault) }
     ensures one_declaration { (src : Sections) (basics : Basics) → HoldsBytes src → (offset : ℕ) (a b : Decl)
         → SpellsDecl src basics offset a → SpellsDecl src basics offset b → a ≡ b }
+    ensures one_spelling { (src : Sections) (basics : Basics) → HoldsBytes src → (offset : ℕ) (a b : Decl)
+        (first : SpellsDecl src basics offset a) (second : SpellsDecl src basics offset b)
+        → spelled_with first ≡ spelled_with second }
     ensures one_fault { (src : Sections) (basics : Basics) (offset : ℕ) (a b : ByteFault)
         → FirstFault src basics offset a → FirstFault src basics offset b → a ≡ b }
     ensures not_both { (src : Sections) (basics : Basics) → HoldsBytes src
@@ -28,18 +31,24 @@ pub fn declaration_or_fault()
         → FirstFault src basics offset fault → ⊥ }
 {}
 
-/// What is read at an offset is spelled there, and what is spelled there is read.
+/// What is read at an offset is spelled there, with the parts that were read; and what is spelled there is read.
 pub fn reading_decides()
     ensures found { (src : Sections) (basics : Basics) → HoldsBytes src → (offset : ℕ) (decl : Decl)
         → decl_at src basics offset ≡ Ok decl → SpellsDecl src basics offset decl }
     ensures again { (src : Sections) (basics : Basics) → HoldsBytes src → (offset : ℕ) (decl : Decl)
         → SpellsDecl src basics offset decl → decl_at src basics offset ≡ Ok decl }
+    ensures parts { (src : Sections) (basics : Basics) → HoldsBytes src → (offset : ℕ) (read : Read)
+        → read_at src basics offset ≡ Ok read
+        → (spells : SpellsDecl src basics offset (decl_of src read)) × (spelled_with spells ≡ spelled_of read) }
 {}
 
-/// At an offset one descriptor is spelled at the most, with one end, whichever blocks explain it.
+/// At an offset one descriptor is spelled at the most, with one end and one list of parts, whichever blocks explain it.
 pub fn one_type()
-    ensures { (src : Sections) → HoldsBytes src → (some others : List Block) → Sound src some → Sound src others
+    ensures block { (src : Sections) → HoldsBytes src → (some others : List Block) → Sound src some → Sound src others
         → (a b : Block) → Contains some a → Contains others b → a.start ≡ b.start → a ≡ b }
+    ensures parts { (src : Sections) → HoldsBytes src → (some others : List Block) (a b : Block)
+        (first : Says src some a) (second : Says src others b) → a.start ≡ b.start
+        → block_spelled first ≡ block_spelled second }
 {}
 
 /// Blocks that explain each other spell a declaration that some of them spell, so one list of blocks serves for all

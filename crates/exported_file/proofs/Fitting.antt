@@ -12,9 +12,8 @@ use Rattle.type_terms.specs.Shapes.{ParamOf, SigOf, FieldOf, MethodOf, TermOf, p
 use Rattle.type_terms.specs.Trees.{Text, Tree, Level, level_of}
 use Rattle.type_terms.specs.Replaced.{all_left, all_right, all_append}
 use Rattle.type_terms.specs.DeclarationRules.{HasLast, IsProperLevel, IsProper}
-use Rattle.decl_spelling.specs.Descriptors.{no_origin}
 use Rattle.file_layout.specs.Items.{Item, a_position, a_type, list_items, type_items, param_items, variadic_items, sig_items, field_items, method_items, embedded_items, term_items, level_items}
-use Rattle.file_layout.specs.Conditions.{ItemFits, HasNoOrigin, LevelFits, TypeFits}
+use Rattle.file_layout.specs.Conditions.{no_origin, ItemFits, HasNoOrigin, LevelFits, TypeFits}
 use Rattle.written_types.specs.ByName.{by_name}
 use Rattle.written_types.specs.Written.{full, position_written, written}
 use Rattle.written_types.proofs.ByNameLemmas.{all_methods}

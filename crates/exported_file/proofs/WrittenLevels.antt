@@ -4,7 +4,7 @@ use Rattle.go_values.specs.declared.positions.Pos.{Pos}
 use Rattle.type_terms.specs.Shapes.{ParamOf, SigOf, FieldOf, MethodOf, TermOf, predeclared_of, named_of, parameter_of, alias_of, pointer_of, slice_of, array_of, chan_of, map_of, func_of, struct_of, interface_of, instance_of, union_of}
 use Rattle.type_terms.specs.Trees.{Text, Tree, predeclared, named, parameter, alias, pointer, slice, array, chan, map_type, func, struct, interface, instance, union, Trees, no_types, types, Params, no_params, params, Fields, no_fields, fields, Methods, no_methods, methods, Terms, no_terms, terms, Level, level_of, tree_of, type_list, param_list, field_list, method_list, term_list, methods_of}
 use Rattle.type_terms.specs.TreeLevels.{level_of-tree_of}
-use Rattle.decl_spelling.specs.Descriptors.{no_origin}
+use Rattle.file_layout.specs.Conditions.{no_origin}
 use Rattle.written_types.specs.ByName.{by_name}
 use Rattle.written_types.specs.Written.{full, position_written, element, written, types_written, elements_written, params_written, fields_written, methods_written, terms_written}
 

@@ -2,6 +2,7 @@ pub mod Examples
 pub mod ItemsHere
 pub mod WholeHere
 pub mod ItemsStand
+pub mod MeantTwice
 pub mod DescriptorsHere
 pub mod FormsHere
 pub mod ItemTypes

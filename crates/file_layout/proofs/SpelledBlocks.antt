@@ -1,5 +1,5 @@
 -- Blocks and declarations that are laid spell what they were laid for.
-use Rattle.std.proofs.Common.{◌≡◌, ℕ, ◌+◌, ◌^◌, ◌≤◌, ◌<◌, true, false, List, [], ◌∷◌, ◌++◌, length, map, drop, Option, Some, refl, sym, ap, subst, ◌∙◌, arith, length-append, inl, inr}
+use Rattle.std.proofs.Common.{◌≡◌, ℕ, ◌+◌, ◌^◌, ◌≤◌, ◌<◌, true, false, List, [], ◌∷◌, ◌++◌, length, map, drop, Option, Some, None, refl, sym, ap, subst, ◌∙◌, arith, length-append, inl, inr}
 use Rattle.std.specs.Prelude.{IsTrue}
 use Rattle.std.specs.List.{Contains, AllByRecursion}
 use Rattle.std.proofs.lemmas.List.Elements.{All-from_recursion}
@@ -23,13 +23,14 @@ use Rattle.type_terms.specs.Declarations.{Decl, var_of, function_of, constant_of
 use Rattle.type_terms.specs.DeclarationRules.{IsProperLevel, IsProperForm}
 use Rattle.decl_spelling.specs.declared.mention.TheConstants.{FIRST_DESCRIPTOR}
 use Rattle.decl_spelling.specs.Sections.{Sections, Basics}
+use Rattle.decl_spelling.specs.Spelled.{SpelledText, SpelledPath, SpelledPos, SpelledShape, SpelledForm, pos_meant, text_meant, path_meant, meant, form_meant}
 use Rattle.decl_spelling.specs.Codes.{basic_of, decl_tag_of}
 use Rattle.decl_spelling.specs.Descent.{is_generic}
 use Rattle.decl_spelling.specs.Descriptors.{Flat}
 use Rattle.decl_spelling.specs.Grammar.{Here, InTurn, IsDescriptor}
 use Rattle.decl_spelling.specs.Spelling.{Block, Known, Names, AllNamed, here, IsInstanceOf, Says, Sound, number_of, kind_of_decl, SpellsDecl}
-use Rattle.decl_spelling.proofs.MapLemmas.{all_map, all_weaker}
-use Rattle.decl_spelling.proofs.RetypeLemmas.{retype_twice, retype_same, form_twice, form_same}
+use Rattle.decl_spelling.proofs.MapLemmas.{all_map, all_unmap, all_weaker}
+use Rattle.decl_spelling.proofs.RetypeLemmas.{retype_twice, form_twice}
 use Rattle.decl_spelling.proofs.Forms.{generic_same, form_types_map}
 use Rattle.file_envelope.specs.FileBytes.{text_number}
 use Rattle.file_layout.specs.Items.{Item, a_number, a_flag, a_text, a_path, a_position, a_type, a_whole, level_items, decl_items, decl_kind}
@@ -37,8 +38,9 @@ use Rattle.file_layout.specs.Bytes.{items_bytes}
 use Rattle.file_layout.specs.Walk.{is_made}
 use Rattle.file_layout.specs.Places.{start_of, number_in, number_from, Line, Written}
 use Rattle.file_layout.proofs.ItemsStand.{IsItem, AllMayStand, last_place, here_with, items_here}
-use Rattle.file_layout.proofs.DescriptorsHere.{level_there}
-use Rattle.file_layout.proofs.FormsHere.{known, known_form, form_there, no_methods}
+use Rattle.file_layout.proofs.MeantTwice.{meant_twice, form_twice as form_meant_twice}
+use Rattle.file_layout.proofs.DescriptorsHere.{TypeAt, shape_tree, spell, level_there}
+use Rattle.file_layout.proofs.FormsHere.{tree_at, form_tree, known, known_form, form_there, no_methods}
 use Rattle.file_layout.proofs.ItemTypes.{items_types, level_types, decl_types, HasMethodsOf}
 use Rattle.file_layout.proofs.Laying.{Placed, block_of, Lies, BlockLies, LineLies, Good}
 
@@ -135,7 +137,7 @@ module _ (own : Text) (paths texts : List Text) (basics : Basics) (decls : QName
       omega (arith, made_number type (start_of lies.before type) placed.0, found.start, early.0, early.1, inside, body_fits)
 
   names : {start end : ℕ} {piece : List Block → List ℕ} {items : List Item} → (lies : Lying start end piece items) → (type : Tree) → Placed lies.before type
-      → Names src w.blocks start (record { number = number_in lies.before type; tree = type })
+      → Names src w.blocks start (record { number = number_in lies.before type; pos = None; tree = type })
   names lies type (inl made) =
       let basic = basic_is type made in
       let is : number_in lies.before type ≡ basic_code basic.0 = ap (λ (t : Tree). number_from t (start_of lies.before type)) basic.1 in
@@ -155,26 +157,28 @@ module _ (own : Text) (paths texts : List Text) (basics : Basics) (decls : QName
         found.tree,
       )
 
-  names_all : {start end : ℕ} {piece : List Block → List ℕ} {items : List Item} → (lies : Lying start end piece items) → (types : List Tree) → AllByRecursion (Placed lies.before) types
-      → AllNamed src w.blocks start (map (known src (number lies.before)) types)
-  names_all {start} lies types placed =
-      All-from_recursion (Names src w.blocks start) (map (known src (number lies.before)) types)
-      (all_map (Names src w.blocks start) (known src (number lies.before)) types (all_weaker (Placed lies.before) (λ t. Names src w.blocks start (known src (number lies.before) t)) (names lies) types placed))
+
+  names_all : {start end : ℕ} {piece : List Block → List ℕ} {items : List Item} → (lies : Lying start end piece items) → (ys : List TypeAt) → AllByRecursion (Placed lies.before) (map tree_at ys)
+      → AllNamed src w.blocks start (map (known src (number_in lies.before)) ys)
+  names_all {start} lies ys placed =
+      All-from_recursion (Names src w.blocks start) (map (known src (number_in lies.before)) ys)
+      (all_map (Names src w.blocks start) (known src (number_in lies.before)) ys
+      (all_weaker (λ (t : TypeAt). Placed lies.before t.tree) (λ (t : TypeAt). Names src w.blocks start (known src (number_in lies.before) t)) (λ t there. names lies t.tree there) ys (all_unmap (Placed lies.before) tree_at ys placed)))
 
   -- the bytes of the items stand behind some first ones
   abbrev items_of : List Block → List Item → List ℕ
   items_of before items = items_bytes own (text_number texts) (number_in before) no_place items
 
   items_there : {start end : ℕ} {piece : List Block → List ℕ} {items : List Item} → (lies : Lying start end piece items) → (rest : List ℕ)
-      → InTurn (IsItem src (number_in lies.before)) (here_with (items_of lies.before items ++ rest) no_place) items (here_with rest (last_place no_place items))
+      → (name : Option ℕ) × InTurn (IsItem src (number_in lies.before)) (here_with (items_of lies.before items ++ rest) no_place None) items (here_with rest (last_place no_place items) name)
   items_there {items = items} lies rest =
       let may = all_known own paths texts (number_in lies.before) no_place items lies.may (all_weaker (Placed lies.before) (λ t. number_in lies.before t < 2 ^ 64) (number_small lies) (items_types items) lies.placed) in
       let may' : AllMayStand src.own src.paths texts (number_in lies.before) no_place items =
       subst (λ (o : Text). AllMayStand o src.paths texts (number_in lies.before) no_place items) (sym own_is)
       (subst (λ (ps : List Text). AllMayStand own ps texts (number_in lies.before) no_place items) (sym paths_are) may)
       in
-      subst (λ (o : Text). InTurn (IsItem src (number_in lies.before)) (here_with (items_bytes o (text_number texts) (number_in lies.before) no_place items ++ rest) no_place) items (here_with rest (last_place no_place items))) own_is
-      (items_here src texts (number_in lies.before) strings_are strings_fit no_place items rest (omega arith, omega arith) may')
+      subst (λ (o : Text). (name : Option ℕ) × InTurn (IsItem src (number_in lies.before)) (here_with (items_bytes o (text_number texts) (number_in lies.before) no_place items ++ rest) no_place None) items (here_with rest (last_place no_place items) name)) own_is
+      (items_here src texts (number_in lies.before) strings_are strings_fit no_place None items rest (omega arith, omega arith) may')
 
   piece_there : {start end : ℕ} {piece : List Block → List ℕ} {items : List Item} → (lies : Lying start end piece items) → drop start src.body ≡ piece lies.before ++ lies.rest
   piece_there {start} {piece = piece} lies =
@@ -182,8 +186,8 @@ module _ (own : Text) (paths texts : List Text) (basics : Basics) (decls : QName
       ∙ ap (λ (n : ℕ). drop n (lies.front ++ (piece lies.before ++ lies.rest))) (sym lies.starts)
       ∙ drop-append_seam lies.front (piece lies.before ++ lies.rest)
 
-  base_is : (number' : Tree → ℕ) (level : Level) → IsProperLevel level → IsInstanceOf (retype (known src number') level)
-  base_is number' (instance_of base args) proper = generic_is base proper.0
+  base_is : (number' : Tree → ℕ) (y : SpelledShape TypeAt) → IsProperLevel (shape_tree y) → IsInstanceOf (retype (known src number') y)
+  base_is number' (instance_of base args) proper = generic_is base.tree proper.0
   base_is number' (predeclared_of basic) proper = tt
   base_is number' (named_of name path) proper = tt
   base_is number' (parameter_of name path) proper = tt
@@ -198,29 +202,39 @@ module _ (own : Text) (paths texts : List Text) (basics : Basics) (decls : QName
   base_is number' (interface_of home embedded methods) proper = tt
   base_is number' (union_of terms) proper = tt
 
+  -- the types of what is spelled are those of what is meant
+  shape_trees : (y : SpelledShape TypeAt) (level : Level) → shape_tree y ≡ level → shape_types level ≡ map tree_at (shape_types y)
+  shape_trees y level is = ap shape_types (sym is) ∙ shape_types_map pos_meant text_meant path_meant tree_at y
+
+  form_trees : (y : SpelledForm TypeAt) (decl : Decl) → form_tree y ≡ decl → form_types decl ≡ map tree_at (form_types y)
+  form_trees y decl is = ap form_types (sym is) ∙ form_types_map pos_meant text_meant tree_at y
+
   block_says : (b : Block) → BlockLies own paths texts basics decls w.bytes w.blocks b → Says src w.blocks b
   block_says b there =
       let lies = there.lies in
       let level = level_of b.tree in
       let items = level_items level in
       let number' = number_in lies.before in
-      let a = here_with (items_of lies.before items ++ lies.rest) no_place in
-      let descriptor : IsDescriptor src a (retype number' level) (here_with lies.rest (last_place no_place items)) =
-      level_there src number' level a (here_with lies.rest (last_place no_place items)) version there.fits.proper there.fits.no_origin (items_there lies lies.rest) (some_items b.tree there.made)
-      in
-      let at : a ≡ here src b.start = ap (λ (bs : List ℕ). here_with bs no_place) (sym (piece_there lies)) in
+      let a = here_with (items_of lies.before items ++ lies.rest) no_place None in
+      let stand = items_there lies lies.rest in
+      let after = here_with lies.rest (last_place no_place items) stand.0 in
+      let descriptor = level_there src number' level a after version there.fits.proper there.fits.no_origin stand.1 (some_items b.tree there.made) in
+      let y = descriptor.0 in
+      let at : a ≡ here src b.start = ap (λ (bs : List ℕ). here_with bs no_place None) (sym (piece_there lies)) in
+      let trees : meant (retype (λ (x : Known). x.tree) (retype (known src number') y)) ≡ level
+      = ap meant (retype_twice (known src number') (λ (x : Known). x.tree) SpelledPos SpelledText SpelledPath y) ∙ meant_twice tree_at y ∙ descriptor.1 in
       record {
-        parts = retype (known src number') level;
-        after = here_with lies.rest (last_place no_place items);
+        parts = retype (known src number') y;
+        after = after;
         stands =
-            subst (λ (flat : Flat). IsDescriptor src (here src b.start) flat (here_with lies.rest (last_place no_place items))) (sym (retype_twice (known src number') number_of Pos Text Text level))
-            (subst (λ (h : Here). IsDescriptor src h (retype number' level) (here_with lies.rest (last_place no_place items))) at descriptor);
+            subst (λ (flat : Flat). IsDescriptor src (here src b.start) flat after) (sym (retype_twice (known src number') number_of SpelledPos SpelledText SpelledPath y))
+            (subst (λ (h : Here). IsDescriptor src h (retype (spell src number') y) after) at descriptor.2);
         ends = (starts_inside lies).1 ∙ sym (ap length body_is);
-        type = sym (ap tree_of (retype_twice (known src number') (λ (x : Known). x.tree) Pos Text Text level ∙ retype_same Pos Text Text level) ∙ tree_of-level_of b.tree);
+        type = sym (ap tree_of trees ∙ tree_of-level_of b.tree);
         named =
-            subst (AllNamed src w.blocks b.start) (sym (shape_types_map (λ (p : Pos). p) (λ (s : Text). s) (λ (q : Text). q) (known src number') level))
-            (names_all lies (shape_types level) (subst (AllByRecursion (Placed lies.before)) (level_types level) lies.placed));
-        generic = base_is number' level there.fits.proper;
+            subst (AllNamed src w.blocks b.start) (sym (shape_types_map (λ (p : SpelledPos). p) (λ (s : SpelledText). s) (λ (q : SpelledPath). q) (known src number') y))
+            (names_all lies (shape_types y) (subst (AllByRecursion (Placed lies.before)) (level_types level ∙ shape_trees y level descriptor.1) lies.placed));
+        generic = base_is number' y (subst IsProperLevel (sym descriptor.1) there.fits.proper);
       }
 
   pub sound : Sound src w.blocks
@@ -228,15 +242,12 @@ module _ (own : Text) (paths texts : List Text) (basics : Basics) (decls : QName
 
   -- ---- declarations
 
-  form_types_are : (number' : Tree → ℕ) (decl : Decl) → form_types (known_form src number' decl) ≡ map (known src number') (form_types decl)
-  form_types_are number' decl = form_types_map (known src number') decl
-
-  kind_is : (number' : Tree → ℕ) (decl : Decl) → kind_of_decl (known_form src number' decl) ≡ decl_kind decl
+  kind_is : (number' : Tree → ℕ) (y : SpelledForm TypeAt) → kind_of_decl (known_form src number' y) ≡ decl_kind (form_tree y)
   kind_is number' (var_of pos type) = refl
-  kind_is number' (function_of pos tparams sig) = generic_same (known src number') tparams kinds.GenericFunc kinds.Func
+  kind_is number' (function_of pos tparams sig) = generic_same (known src number') tparams kinds.GenericFunc kinds.Func ∙ sym (generic_same tree_at tparams kinds.GenericFunc kinds.Func)
   kind_is number' (constant_of pos type value) = refl
-  kind_is number' (defined_of pos tparams underlying methods) = generic_same (known src number') tparams kinds.GenericDefined kinds.Defined
-  kind_is number' (renamed_of pos tparams type) = generic_same (known src number') tparams kinds.GenericAlias kinds.Alias
+  kind_is number' (defined_of pos tparams underlying methods) = generic_same (known src number') tparams kinds.GenericDefined kinds.Defined ∙ sym (generic_same tree_at tparams kinds.GenericDefined kinds.Defined)
+  kind_is number' (renamed_of pos tparams type) = generic_same (known src number') tparams kinds.GenericAlias kinds.Alias ∙ sym (generic_same tree_at tparams kinds.GenericAlias kinds.Alias)
   kind_is number' (type_parameter_of pos implicit constraint) = refl
 
   line_spells : (l : Line) → (there : LineLies own paths texts basics decls w.bytes w.blocks l) → SpellsDecl src basics l.start there.decl
@@ -246,20 +257,26 @@ module _ (own : Text) (paths texts : List Text) (basics : Basics) (decls : QName
       let items = decl_items basics decl in
       let number' = number_in lies.before in
       let bytes = items_of lies.before items ++ lies.rest in
-      let after = here_with lies.rest (last_place no_place items) in
+      let stand = items_there lies lies.rest in
+      let after = here_with lies.rest (last_place no_place items) stand.0 in
+      let form = form_there src number' basics decl (here_with bytes no_place None) after version there.fits.proper there.fits.constant stand.1 in
+      let y = form.0 in
+      let is : form_tree y ≡ decl = form.2 in
+      let kind : kind_of_decl (known_form src number' y) ≡ decl_kind decl = kind_is number' y ∙ ap decl_kind is in
       record {
         blocks = w.blocks;
         sound = sound;
-        parts = known_form src number' decl;
+        parts = known_form src number' y;
+        value = form.1;
         rest = bytes;
         after = after;
-        kind = piece_there lies ∙ ap (λ (kind : DeclTag). decl_tag_code kind ∷ bytes) (sym (kind_is number' decl));
-        known = ap (λ (v : ℕ). decl_tag_of v (decl_tag_code (kind_of_decl (known_form src number' decl)))) version ∙ kind_back (kind_of_decl (known_form src number' decl));
-        stands = form_there src number' basics decl (here_with bytes no_place) after version there.fits.proper there.fits.constant (items_there lies lies.rest);
+        kind = piece_there lies ∙ ap (λ (kind : DeclTag). decl_tag_code kind ∷ bytes) (sym kind);
+        known = ap (λ (v : ℕ). decl_tag_of v (decl_tag_code (kind_of_decl (known_form src number' y)))) version ∙ kind_back (kind_of_decl (known_form src number' y));
+        stands = form.3;
         named =
-            subst (AllNamed src w.blocks l.start) (sym (form_types_are number' decl))
-            (names_all lies (form_types decl) (subst (AllByRecursion (Placed lies.before)) (decl_types basics decl (has_its_methods decl there.fits.proper)) lies.placed));
-        meant = sym (form_twice (known src number') (λ (x : Known). x.tree) Pos Text decl ∙ form_same Pos Text decl);
+            subst (AllNamed src w.blocks l.start) (sym (form_types_map (λ (p : SpelledPos). p) (λ (s : SpelledText). s) (known src number') y))
+            (names_all lies (form_types y) (subst (AllByRecursion (Placed lies.before)) (decl_types basics decl (has_its_methods decl there.fits.proper) ∙ form_trees y decl is) lies.placed));
+        meant = sym (ap form_meant (form_twice (known src number') (λ (x : Known). x.tree) SpelledPos SpelledText y) ∙ form_meant_twice tree_at y ∙ is);
       }
 
   -- each line is the place of the declaration of its name

@@ -1,11 +1,11 @@
 -- What a layout asks of what is written.
-use Rattle.std.specs.Prelude.{◌≡◌, ◌^◌, ◌<◌, IsTrue, Some}
+use Rattle.std.specs.Prelude.{◌≡◌, ◌^◌, ◌<◌, [], IsTrue, Some}
 use Rattle.std.specs.List.{AllByRecursion}
 use Rattle.wire_bytes.specs.Whole.{IsGreatestLength, in_range}
 use Rattle.position_codec.specs.Place.{place_of, pos_of}
 use Rattle.position_codec.specs.Position.{IsPlace}
-use Rattle.type_terms.specs.Shapes.{struct_of, interface_of}
-use Rattle.type_terms.specs.Trees.{Tree, Level, level_of}
+use Rattle.type_terms.specs.Shapes.{OriginOf, struct_of, interface_of}
+use Rattle.type_terms.specs.Trees.{Text, Tree, Level, level_of}
 use Rattle.type_terms.specs.Parts.{Within}
 use Rattle.type_terms.specs.Declarations.{Decl, form_types, constant_of}
 use Rattle.type_terms.specs.DeclarationRules.{IsProperLevel, IsProperForm}
@@ -13,7 +13,6 @@ use Rattle.decl_spelling.specs.Sections.{Basics}
 use Rattle.decl_spelling.specs.Constants.{Spelling, flag, offset, number, spelled, kind_of, basic_type}
 use Rattle.go_values.specs.declared.constants.Const.{Const}
 use Rattle.go_values.specs.declared.constants.Const.TheVariants.{Bool as truth, Int as whole, Str as chars}
-use Rattle.decl_spelling.specs.Descriptors.{no_origin}
 use Rattle.file_layout.specs.Items.{Item, a_number, a_position, a_whole, level_items}
 use Rattle.file_layout.specs.Items.{decl_items}
 
@@ -23,6 +22,9 @@ ItemFits (a_number n) = n < 2 ^ 64
 ItemFits (a_position pos) = (pos ≡ pos_of (place_of pos)) × IsPlace (place_of pos)
 ItemFits (a_whole signed max v) = IsGreatestLength max × IsTrue (in_range signed max v)
 ItemFits _ = Unit {0}
+
+abbrev pub no_origin : OriginOf Text Text
+no_origin = record { text = []; path = [] }
 
 -- Only literals of other packages in shallow files have an origin.
 abbrev pub HasNoOrigin : Level → Type 0

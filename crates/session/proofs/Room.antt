@@ -13,7 +13,7 @@ use Rattle.decl_spelling.specs.Sections.{Sections, Basics, HoldsBytes}
 use Rattle.decl_spelling.specs.Leaving.{types_read}
 use Rattle.decl_spelling.specs.OneFile.{HoldsTypesOf}
 use Rattle.decl_spelling.proofs.OneFileReading.{types_stay, types_suffice}
-use Rattle.decl_reader.specs.Calls.{sections_of}
+use Rattle.block_reader.specs.Calls.{sections_of}
 use Rattle.session.specs.OpenFile.{sections_in, most_types}
 use Rattle.session.proofs.OpenFiles.{source_is}
 

@@ -7,7 +7,7 @@ use Rattle.file_parts.specs.Paths.{ArePaths, ArePathsIn, meant}
 use Rattle.file_parts.specs.FileParts.{IsOfFile, paths_of, strings_of, body_of}
 use Rattle.name_index.specs.FullFile.{content, Package, FullFile}
 use Rattle.name_index.specs.Opening.{ArePartsOf}
-use Rattle.decl_reader.specs.Calls.{sections_of}
+use Rattle.block_reader.specs.Calls.{sections_of}
 use Rattle.session_files.specs.FileSections.{own_path, spelled_paths, sections_in}
 
 none_below : (a : List ℕ) → IsBelow a [] → ⊥

@@ -9,21 +9,19 @@ ghost use Rattle.type_terms.specs.Shapes.{retype};
 ghost use Rattle.type_terms.specs.Trees.{Tree, tree_of};
 ghost use Rattle.decl_spelling.specs.Tables.{type_named};
 ghost use Rattle.decl_spelling.specs.Constants.{generic_basic, basic_type};
-ghost use Rattle.decl_reader.specs.Calls.{sections_of, ahead_of};
+ghost use Rattle.block_reader.specs.Calls.{sections_of, ahead_of};
 ghost use Rattle.decl_reader.specs.Blocks.{AllInside, table_of};
 ghost use Rattle.decl_reader.specs.Progress.{known, IsReadyFor};
 ghost use Rattle.decl_reader.specs.Wholes.{IsValue, value_by};
 
 use crate::basics::Basics;
-use crate::block::Block;
-use crate::codes::basic_named;
-use crate::flat::{Kind, kind_of, read_value};
 use crate::reading::Reading;
 use crate::table::Table;
 use crate::type_off::TypeOff;
+use block_reader::{Block, Kind, SpelledConst, basic_named, kind_of, read_value};
 use code_tables::Basic;
 use file_parts::Parts;
-use go_values::{Const, QName};
+use go_values::QName;
 use std::alloc::Global;
 use std::sync::ledger::Ledger;
 use type_terms::{Arena, Node};
@@ -38,7 +36,7 @@ impl<L: Ledger> Reading<'_, L> {
         at: u64,
         basics: &B,
         block: &mut Block<'_>,
-    ) -> Result<Const, ReadFault>
+    ) -> Result<SpelledConst, ReadFault>
         requires of_file { IsOfFile parts.now }
         requires ready { IsReadyFor parts.now self.now }
         ensures { IsValue result (ahead_of block.new)
@@ -60,7 +58,7 @@ fn read_value_of(
     basic: Basic,
     at: u64,
     block: &mut Block<'_>,
-) -> Result<Const, ReadFault>
+) -> Result<SpelledConst, ReadFault>
     requires of_file { IsOfFile parts.now }
     ensures { IsValue result (ahead_of block.new)
         (value_by (sections_of parts.now) at (Some basic) (ahead_of block.old)) }

@@ -10,19 +10,17 @@ ghost use Rattle.decl_spelling.specs.Reading.{list_at};
 ghost use Rattle.decl_spelling.specs.Tables.{type_named};
 ghost use Rattle.decl_spelling.specs.Declarations.{has_methods, receiver_at, resolved};
 ghost use Rattle.decl_spelling.specs.Leaving.{left_by_part, left_by_methods};
-ghost use Rattle.decl_reader.specs.Calls.{sections_of, ahead_of};
+ghost use Rattle.block_reader.specs.Calls.{sections_of, ahead_of};
 ghost use Rattle.decl_reader.specs.Blocks.{AllInside, table_of};
-ghost use Rattle.decl_reader.specs.Forms.{receiver_shape};
+ghost use Rattle.block_reader.specs.Parts.{receiver_spelled};
 ghost use Rattle.decl_reader.specs.Progress.{known, IsReadyFor, GoesOn};
 ghost use Rattle.decl_reader.specs.Wholes.{IsPart, methods_by};
 
-use crate::block::Block;
-use crate::codes::basic_named;
 use crate::fault::DeclFault;
-use crate::flat::{ReceiverParts, read_receivers};
 use crate::reading::Reading;
 use crate::table::Table;
 use crate::type_off::TypeOff;
+use block_reader::{Block, ReceiverParts, basic_named, read_receivers};
 use code_tables::Basic;
 use file_parts::Parts;
 use std::sync::ledger::Ledger;
@@ -41,7 +39,7 @@ impl<L: Ledger> Reading<'_, L> {
         requires of_file { IsOfFile parts.now }
         requires ready { IsReadyFor parts.now self.old }
         requires within { offset ≤ parts.now.body_len }
-        ensures exact { IsPart (λ v. map receiver_shape v.items) result (ahead_of block.new) (known self.new)
+        ensures exact { IsPart (λ v. map receiver_spelled v.items) result (ahead_of block.new) (known self.new)
             (methods_by (sections_of parts.now) offset (ahead_of block.old) (known self.old)
             (has_methods (type_named parts.now.version (known self.old) underlying))) }
         ensures adds { AddsOnly
@@ -70,7 +68,7 @@ impl<L: Ledger> Reading<'_, L> {
         requires of_file { IsOfFile parts.now }
         requires ready { IsReadyFor parts.now self.old }
         requires within { offset ≤ parts.now.body_len }
-        ensures exact { IsPart (λ v. map receiver_shape v.items) result (ahead_of block.new) (known self.new)
+        ensures exact { IsPart (λ v. map receiver_spelled v.items) result (ahead_of block.new) (known self.new)
             (resolved (sections_of parts.now) offset
             (list_at (receiver_at (sections_of parts.now)) (ahead_of block.old)) (known self.old)) }
         ensures adds { AddsOnly

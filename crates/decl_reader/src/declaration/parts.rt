@@ -4,14 +4,14 @@ ghost use Rattle.std.specs.Prelude.{◌≡◌, ◌≤◌, OnOk, IsErrOf};
 ghost use Rattle.file_parts.specs.FileParts.{IsOfFile};
 ghost use Rattle.type_terms.specs.Additions.{AddsOnly, Outgrows};
 ghost use Rattle.decl_spelling.specs.Leaving.{left_by_named};
-ghost use Rattle.decl_reader.specs.Calls.{sections_of, ahead_of};
+ghost use Rattle.block_reader.specs.Calls.{sections_of, ahead_of};
 ghost use Rattle.decl_reader.specs.Opens.{Resolves};
 ghost use Rattle.decl_reader.specs.Progress.{known, IsReadyFor, GoesOn};
 ghost use Rattle.decl_reader.specs.Wholes.{all_known, types_before};
 
-use crate::block::Block;
 use crate::fault::DeclFault;
 use crate::reading::Reading;
+use block_reader::Block;
 use file_parts::Parts;
 use std::sync::ledger::Ledger;
 

@@ -6,14 +6,13 @@ ghost use Rattle.type_terms.specs.Arenas.{AllBelow, Extends};
 ghost use Rattle.type_terms.specs.Declarations.{decl_nodes, decl_of, form_types};
 ghost use Rattle.decl_reader.specs.Faults.{IsNoFault};
 ghost use Rattle.decl_reader.specs.Blocks.{AllInside};
-ghost use Rattle.decl_reader.specs.Forms.{decl_form};
-ghost use Rattle.decl_reader.specs.Meant.{named_by, decl_meant};
+ghost use Rattle.decl_reader.specs.Meant.{decl_named};
 
 use crate::fault::DeclFault;
-use crate::flat::DeclParts;
 use crate::nodes::kept::Kept;
 use crate::nodes::numbers::Numbers;
 use crate::table::Table;
+use block_reader::DeclParts;
 use std::alloc::Global;
 use type_terms::{Arena, DeclNode};
 
@@ -27,15 +26,13 @@ pub(crate) fn add_declaration(
 ) -> Result<DeclNode, DeclFault>
     requires inside { AllInside (length arena.old.nodes) table.now }
     ensures denotes { IfOk result
-        (λ node. decl_of arena.new.nodes node
-        ≡ decl_meant (named_by version arena.old.nodes table.now) (decl_form parts)) }
+        (λ node. decl_of arena.new.nodes node ≡ decl_named version arena.old.nodes table.now parts) }
     ensures within { IfOk result (λ node. AllBelow (length arena.new.nodes) (decl_nodes node)) }
     ensures extends { Extends arena.old arena.new }
     ensures only_memory { IfErr result IsNoFault }
-    ensures adds { AddsOnly (form_types (decl_meant (named_by version arena.old.nodes table.now) (decl_form parts)))
-        arena.old arena.new }
+    ensures adds { AddsOnly (form_types (decl_named version arena.old.nodes table.now parts)) arena.old arena.new }
     ensures outgrown { IsErrOf result DeclFault.Nodes → Outgrows arena.old
-        (form_types (decl_meant (named_by version arena.old.nodes table.now) (decl_form parts))) }
+        (form_types (decl_named version arena.old.nodes table.now parts)) }
     ensures full { IsErrOf result DeclFault.Nodes → length arena.new.nodes ≡ arena.new.limit }
 {
     parts.with_nodes(alloc, version, table, arena)
@@ -75,7 +72,7 @@ impl Kept for DeclParts {
         match self {
             DeclParts::Var { pos, ty } => {
                 let ty = ty.with_nodes(alloc, version, table, arena)?;
-                Ok(DeclNode::Var { pos, ty })
+                Ok(DeclNode::Var { pos: pos.pos, ty })
             }
             DeclParts::Func {
                 pos,
@@ -84,11 +81,19 @@ impl Kept for DeclParts {
             } => {
                 let types = (Numbers { items: tparams }, signature);
                 let (tparams, sig) = types.with_nodes(alloc, version, table, arena)?;
-                Ok(DeclNode::Func { pos, tparams, sig })
+                Ok(DeclNode::Func {
+                    pos: pos.pos,
+                    tparams,
+                    sig,
+                })
             }
             DeclParts::Constant { pos, ty, value } => {
                 let ty = ty.with_nodes(alloc, version, table, arena)?;
-                Ok(DeclNode::Constant { pos, ty, value })
+                Ok(DeclNode::Constant {
+                    pos: pos.pos,
+                    ty,
+                    value: value.value,
+                })
             }
             DeclParts::Defined {
                 pos,
@@ -101,7 +106,7 @@ impl Kept for DeclParts {
                     alloc, version, table, arena,
                 )?;
                 Ok(DeclNode::Defined {
-                    pos,
+                    pos: pos.pos,
                     tparams,
                     underlying,
                     methods,
@@ -110,7 +115,11 @@ impl Kept for DeclParts {
             DeclParts::Alias { pos, tparams, ty } => {
                 let types = (Numbers { items: tparams }, ty);
                 let (tparams, ty) = types.with_nodes(alloc, version, table, arena)?;
-                Ok(DeclNode::Alias { pos, tparams, ty })
+                Ok(DeclNode::Alias {
+                    pos: pos.pos,
+                    tparams,
+                    ty,
+                })
             }
             DeclParts::Parameter {
                 pos,
@@ -119,7 +128,7 @@ impl Kept for DeclParts {
             } => {
                 let constraint = constraint.with_nodes(alloc, version, table, arena)?;
                 Ok(DeclNode::Parameter {
-                    pos,
+                    pos: pos.pos,
                     implicit,
                     constraint,
                 })

@@ -13,10 +13,11 @@ ghost use Rattle.decl_reader.specs.Meant.{IsGenericFlat};
 ghost use Rattle.decl_reader.specs.Shapes.{flat_shape};
 
 use crate::fault::DeclFault;
-use crate::flat::Flat;
 use crate::nodes::kept::Kept;
-use crate::nodes::numbers::Numbers;
+use crate::nodes::numbers::{Elements, Numbers};
 use crate::table::Table;
+use block_reader::{Flat, SpelledName};
+use go_values::QName;
 use std::alloc::Global;
 use type_terms::{Arena, Node, NodeId};
 
@@ -46,6 +47,16 @@ pub(crate) fn add_flat(
 {
     let node = flat.with_nodes(alloc, version, table, arena)?;
     Ok(arena.add(node)?)
+}
+
+/// The name without the offsets of its texts.
+fn qualified(name: SpelledName) -> QName
+    ensures { result ≡ record { path = name.path.path; name = name.name.text } }
+{
+    QName {
+        path: name.path.path,
+        name: name.name.text,
+    }
 }
 
 impl Kept for Flat {
@@ -81,9 +92,9 @@ impl Kept for Flat {
         arena: &mut Arena,
     ) -> Result<Node, DeclFault> {
         match self {
-            Flat::Defined(name) => Ok(Node::Named(name)),
-            Flat::TypeParameter(name) => Ok(Node::Param(name)),
-            Flat::Alias(name) => Ok(Node::AliasName(name)),
+            Flat::Defined(name) => Ok(Node::Named(qualified(name))),
+            Flat::TypeParameter(name) => Ok(Node::Param(qualified(name))),
+            Flat::Alias(name) => Ok(Node::AliasName(qualified(name))),
             Flat::Pointer(ty) => Ok(Node::Pointer(ty.with_nodes(alloc, version, table, arena)?)),
             Flat::Slice(ty) => Ok(Node::Slice(ty.with_nodes(alloc, version, table, arena)?)),
             Flat::Array(size, ty) => {
@@ -100,18 +111,18 @@ impl Kept for Flat {
             }
             Flat::Func(home, signature) => {
                 let sig = signature.with_nodes(alloc, version, table, arena)?;
-                Ok(Node::FuncOf(home, sig))
+                Ok(Node::FuncOf(home.path, sig))
             }
             Flat::Struct(home, fields) => {
                 let fields = fields.with_nodes(alloc, version, table, arena)?;
-                Ok(Node::StructOf(home, fields))
+                Ok(Node::StructOf(home.path, fields))
             }
             Flat::Interface(home, embedded, methods) => {
-                let parts = (Numbers { items: embedded }, methods);
+                let parts = (Elements { items: embedded }, methods);
                 let (embedded, methods) = parts.with_nodes(alloc, version, table, arena)?;
-                Ok(Node::Iface(home, embedded, methods))
+                Ok(Node::Iface(home.path, embedded, methods))
             }
-            Flat::Instance(base, arguments) => {
+            Flat::Instance(_pos, base, arguments) => {
                 let parts = (Numbers { items: arguments }, base);
                 let (arguments, base) = parts.with_nodes(alloc, version, table, arena)?;
                 Ok(Node::Instance(base, arguments))

@@ -3,9 +3,9 @@
 ghost use Rattle.std.specs.Prelude.{◌≡◌, []};
 
 use crate::fault::DeclFault;
-use crate::flat::{FieldParts, MethodParts, Param, ReceiverParts, Signature, TermParts};
 use crate::nodes::kept::Kept;
 use crate::table::Table;
+use block_reader::{FieldParts, MethodParts, Param, ReceiverParts, Signature, TermParts};
 use go_values::Bytes;
 use std::alloc::Global;
 use type_terms::{Arena, Field, IMethod, Method, Origin, ParamNode, Sig, Term};
@@ -54,8 +54,8 @@ impl Kept for Param {
     ) -> Result<ParamNode, DeclFault> {
         let ty = self.ty.with_nodes(alloc, version, table, arena)?;
         Ok(ParamNode {
-            pos: self.pos,
-            name: self.name,
+            pos: self.pos.pos,
+            name: self.name.text,
             ty,
         })
     }
@@ -138,11 +138,11 @@ impl Kept for FieldParts {
         let ty = self.ty.with_nodes(alloc, version, table, arena)?;
         Ok(Field {
             origin: no_origin(alloc),
-            pos: self.pos,
-            name: self.name,
+            pos: self.pos.pos,
+            name: self.name.text,
             ty,
             embedded: self.embedded,
-            tag: self.tag,
+            tag: self.tag.text,
         })
     }
 }
@@ -182,8 +182,8 @@ impl Kept for MethodParts {
         let sig = self.signature.with_nodes(alloc, version, table, arena)?;
         Ok(IMethod {
             origin: no_origin(alloc),
-            pos: self.pos,
-            name: self.name,
+            pos: self.pos.pos,
+            name: self.name.text,
             sig,
         })
     }
@@ -262,8 +262,8 @@ impl Kept for ReceiverParts {
         let types = (self.recv, self.signature);
         let (recv, sig) = types.with_nodes(alloc, version, table, arena)?;
         Ok(Method {
-            pos: self.pos,
-            name: self.name,
+            pos: self.pos.pos,
+            name: self.name.text,
             recv,
             sig,
         })

@@ -9,11 +9,11 @@ ghost use Rattle.decl_reader.specs.Faults.{IsNoFault};
 ghost use Rattle.decl_reader.specs.Blocks.{AllInside};
 ghost use Rattle.decl_reader.specs.Meant.{named_by};
 
-use crate::codes::basic_named;
 use crate::fault::DeclFault;
 use crate::nodes::kept::{Kept, all_with_nodes};
 use crate::table::Table;
 use crate::type_off::TypeOff;
+use block_reader::{Embedded, basic_named};
 use code_tables::Basic;
 use std::alloc::Global;
 use type_terms::{Arena, Node, NodeId, Nodes};
@@ -107,6 +107,80 @@ impl Kept for Numbers {
     ghost Shape = { List ℕ };
 
     ghost shape = { λ numbers. numbers.items.items };
+
+    ghost item_shape = { λ ids. ids };
+
+    ghost types = { λ numbers. numbers };
+
+    ghost Meaning = { List Tree };
+
+    ghost meant = { λ named numbers. map named numbers };
+
+    ghost agrees = { numbers_agree };
+
+    fn with_nodes(
+        self,
+        alloc: Global,
+        version: u8,
+        table: &Table,
+        arena: &mut Arena,
+    ) -> Result<Nodes, DeclFault> {
+        let ids = all_with_nodes(alloc, self.items, version, table, arena)?;
+        Ok(Nodes::from_items(ids))
+    }
+}
+
+/// The type of an embedded element, without its position.
+impl Kept for Embedded {
+    ghost use Rattle.std.specs.Prelude.{ℕ, [], ◌∷◌};
+    ghost use Rattle.type_terms.specs.Trees.{Tree};
+    ghost use Rattle.decl_reader.specs.Shapes.{element_type};
+    ghost use Rattle.decl_reader.specs.Meant.{number_agrees};
+
+    type Item = NodeId;
+
+    ghost Shape = { ℕ };
+
+    ghost shape = { element_type };
+
+    ghost item_shape = { λ id. id };
+
+    ghost types = { λ number. number ∷ [] };
+
+    ghost Meaning = { Tree };
+
+    ghost meant = { λ named number. named number };
+
+    ghost agrees = { number_agrees };
+
+    fn with_nodes(
+        self,
+        _alloc: Global,
+        version: u8,
+        table: &Table,
+        arena: &mut Arena,
+    ) -> Result<NodeId, DeclFault> {
+        node_named(version, self.ty, table, arena)
+    }
+}
+
+/// The types that are embedded in an interface.
+#[derive(Drop)]
+pub(crate) struct Elements {
+    pub(crate) items: Vec<Embedded>,
+}
+
+impl Kept for Elements {
+    ghost use Rattle.std.specs.Prelude.{ℕ, List, map};
+    ghost use Rattle.type_terms.specs.Trees.{Tree};
+    ghost use Rattle.decl_reader.specs.Shapes.{element_type};
+    ghost use Rattle.decl_reader.specs.Meant.{numbers_agree};
+
+    type Item = Nodes;
+
+    ghost Shape = { List ℕ };
+
+    ghost shape = { λ elements. map element_type elements.items.items };
 
     ghost item_shape = { λ ids. ids };
 

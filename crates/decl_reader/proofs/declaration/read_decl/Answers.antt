@@ -1,7 +1,7 @@
 use Rattle.decl_spelling.specs.Leaving.{types_read}
 use Rattle.decl_reader.proofs.AdditionLemmas.{added_nodes}
 use Rattle.std.proofs.Common.{rules}
-use Rattle.decl_reader.specs.Calls.{sections_of}
+use Rattle.block_reader.specs.Calls.{sections_of}
 use Rattle.decl_reader.proofs.ProperDeclLemmas.{read_proper}
 use Rattle.decl_reader.proofs.WholeLemmas.{is_spelled}
 use Rattle.decl_reader.proofs.declaration.read_decl.Goals as goal

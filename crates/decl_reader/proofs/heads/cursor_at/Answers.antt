@@ -1,4 +1,4 @@
-use Rattle.decl_reader.proofs.WholeLemmas.{holds_bytes}
+use Rattle.block_reader.proofs.FileBytes.{holds_bytes}
 use Rattle.decl_reader.proofs.heads.cursor_at.Goals as goal
 
 pub returns-clause-bytes : goal.returns-clause-bytes

@@ -4,7 +4,7 @@ use Rattle.std.proofs.lemmas.Result.{err_from_is_err_and}
 use Rattle.decl_spelling.specs.Tables.{at}
 use Rattle.decl_reader.specs.declared.table.Finished.{Finished}
 use Rattle.decl_reader.specs.Blocks.{table_of, finished_of}
-use Rattle.decl_reader.specs.Calls.{sections_of}
+use Rattle.block_reader.specs.Calls.{sections_of}
 use Rattle.decl_reader.proofs.CheckedTypeLemmas.{finished_fault, finished_known}
 use Rattle.decl_reader.proofs.reading.Reading.begin_at.Goals as goal
 

@@ -2,13 +2,12 @@ use Rattle.std.proofs.Common.{ℕ, Result, sym, subst}
 use Rattle.std.specs.Prelude.{IsErrOf}
 use Rattle.wire_bytes.specs.declared.fault.ByteFault.{ByteFault}
 use Rattle.type_terms.specs.Additions.{AddsOnly, Outgrows}
-use Rattle.decl_reader.specs.declared.flat.descriptors.Flat.{Flat}
+use Rattle.block_reader.specs.declared.descriptors.Flat.{Flat}
 use Rattle.decl_reader.specs.declared.fault.DeclFault.TheVariants.{Nodes}
 use Rattle.decl_reader.specs.Left.{left_closed_by}
 use Rattle.decl_reader.specs.Opens.{own_shape}
 use Rattle.decl_reader.specs.Blocks.{table_of}
-use Rattle.decl_reader.specs.Calls.{sections_of}
-use Rattle.decl_reader.specs.Shapes.{flat_shape}
+use Rattle.block_reader.specs.Calls.{sections_of}
 use Rattle.decl_reader.proofs.ClosedLemmas.{generic_flat, own_is, own_ends, closed_if}
 use Rattle.decl_reader.proofs.reading.Reading.close.Goals as goal
 
@@ -17,7 +16,7 @@ finish-requires-clause-generic g c =
     let src = sections_of c.args.parts.now in
     let done = table_of c.args.self.now.arena.now.nodes c.args.self.now.table.now in
     let own = own_is src done c.args.self.now.table.now c.args.block c.in-Ok.flat c.in-Ok.end c.requires.is_open c.in-Ok.is in
-    generic_flat src done c.args.block.start c.args.block.known c.args.block.mentions.items (flat_shape c.in-Ok.flat) c.requires.all c.requires.is_open.answered own.0 own.1
+    generic_flat src done c.args.block.start c.args.block.known c.args.block.mentions.items c.in-Ok.flat c.requires.all c.requires.is_open.answered own.0 own.1
 
 pub returns-in-Ok-clause-closed : goal.returns-in-Ok-clause-closed
 returns-in-Ok-clause-closed g c =

@@ -9,7 +9,7 @@ use Rattle.std.proofs.lemmas.Result.{err_from_is_err_and}
 use Rattle.decl_spelling.specs.declared.mention.Mention.{Mention}
 use Rattle.decl_spelling.specs.Descent.{block_at, resolve_all}
 use Rattle.decl_reader.specs.Blocks.{table_of}
-use Rattle.decl_reader.specs.Calls.{sections_of}
+use Rattle.block_reader.specs.Calls.{sections_of}
 use Rattle.decl_reader.proofs.BegunLemmas.{body_length}
 use Rattle.decl_reader.proofs.DescentLoop.{resolves_as}
 use Rattle.decl_reader.proofs.WholeLemmas.{types_same}

@@ -7,8 +7,8 @@ use Rattle.decl_spelling.proofs.DeclAtLaws.{strings_are, body_is}
 use Rattle.decl_spelling.proofs.TableLaws.{free_within}
 use Rattle.decl_reader.specs.Blocks.{table_of}
 use Rattle.wire_bytes.specs.declared.fault.ReadFault.{ReadFault}
-use Rattle.decl_reader.specs.Calls.{sections_of, ahead_of, Stops}
-use Rattle.decl_reader.specs.Shapes.{flat_shape}
+use Rattle.block_reader.specs.Calls.{sections_of, ahead_of, Stops}
+use Rattle.block_reader.specs.Parts.{flat_spelled}
 use Rattle.decl_reader.proofs.BegunLemmas.{free_at_least, whole, begun_whole_at, begun_fault_at, body_length}
 use Rattle.decl_reader.proofs.reading.Reading.open_at.Goals as goal
 use Rattle.decl_reader.proofs.reading.Reading.open_at.Goals.{in-Ok, in-Err-Bytes}
@@ -37,7 +37,7 @@ overflow_sub-own g c =
     let least : o ≤ free_to o c.args.holder (table_of [] c.args.self.now.table.now) = free_at_least o c.args.holder (table_of [] c.args.self.now.table.now) (omega arith) in
     let free : free_to o c.args.holder (table_of [] c.args.self.now.table.now) ≤ c.args.holder = free_within o c.args.holder (table_of [] c.args.self.now.table.now) (omega arith) in
     let at : c.free_to.result ≡ free_to o c.args.holder (table_of [] c.args.self.now.table.now) = c.free_to.ensures [] in
-    let read = whole src (strings_are src c.new-block.ensures.bytes) (body_is src c.new-block.ensures.bytes) o c.free_to.result (omega (arith, at, free, size)) (flat_shape c.in-Ok.flat) (ahead_of c.read_flat.new.block) (omega (arith, at, least))
+    let read = whole src (strings_are src c.new-block.ensures.bytes) (body_is src c.new-block.ensures.bytes) o c.free_to.result (omega (arith, at, free, size)) (flat_spelled c.in-Ok.flat) (ahead_of c.read_flat.new.block) (omega (arith, at, least))
     (ap (flat_at src) (sym c.new-block.ensures.ahead) ∙ c.in-Ok.ensures) in
     omega (arith, read.begun, c.place.ensures.place)
 

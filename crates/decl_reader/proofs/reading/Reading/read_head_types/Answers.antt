@@ -3,8 +3,8 @@ use Rattle.wire_bytes.specs.declared.fault.ReadFault.{ReadFault}
 use Rattle.type_terms.specs.Trees.{Tree}
 use Rattle.type_terms.specs.Additions.{AddsOnly}
 use Rattle.decl_spelling.specs.Declarations.{head_at}
-use Rattle.decl_reader.specs.Calls.{sections_of, ahead_of, Stops}
-use Rattle.decl_reader.specs.Forms.{head_shape}
+use Rattle.block_reader.specs.Calls.{sections_of, ahead_of, Stops}
+use Rattle.block_reader.specs.Parts.{head_spelled}
 use Rattle.decl_reader.specs.Progress.{known}
 use Rattle.decl_reader.proofs.LeftDeclLemmas.{part_left, part_left_first}
 use Rattle.decl_reader.proofs.reading.Reading.read_head_types.Goals as goal
@@ -14,7 +14,7 @@ returns-in_err-know_types-in-Ok-clause-adds g c =
     let src = sections_of c.args.parts.now in
     let done = known c.args.self.now in
     subst (λ (ts : List Tree). AddsOnly ts c.args.self.now.arena.now c.know_types.new.self.arena.now)
-    (part_left src c.args.offset (head_at src (ahead_of c.args.block.now)) done (head_shape c.in-Ok.head) (ahead_of c.read_declaration_head.new.block) c.in-Ok.ensures) c.know_types.ensures.adds
+    (part_left src c.args.offset (head_at src (ahead_of c.args.block.now)) done (head_spelled c.in-Ok.head) (ahead_of c.read_declaration_head.new.block) c.in-Ok.ensures) c.know_types.ensures.adds
 
 pub returns-in_err-know_types-in-Err-Bytes-clause-adds : goal.returns-in_err-know_types-in-Err-Bytes-clause-adds
 returns-in_err-know_types-in-Err-Bytes-clause-adds g c =
@@ -29,7 +29,7 @@ returns-in_ok-know_types-in-Ok-clause-adds g c =
     let src = sections_of c.args.parts.now in
     let done = known c.args.self.now in
     subst (λ (ts : List Tree). AddsOnly ts c.args.self.now.arena.now c.know_types.new.self.arena.now)
-    (part_left src c.args.offset (head_at src (ahead_of c.args.block.now)) done (head_shape c.in-Ok.head) (ahead_of c.read_declaration_head.new.block) c.in-Ok.ensures) c.know_types.ensures.adds
+    (part_left src c.args.offset (head_at src (ahead_of c.args.block.now)) done (head_spelled c.in-Ok.head) (ahead_of c.read_declaration_head.new.block) c.in-Ok.ensures) c.know_types.ensures.adds
 
 pub returns-in_ok-know_types-in-Err-Bytes-clause-adds : goal.returns-in_ok-know_types-in-Err-Bytes-clause-adds
 returns-in_ok-know_types-in-Err-Bytes-clause-adds g c =

@@ -1,7 +1,7 @@
 use Rattle.std.proofs.Common.{Bool, sym, subst, ◌∙◌}
 use Rattle.type_terms.specs.Additions.{AddsOnly}
 use Rattle.decl_spelling.specs.Leaving.{left_by_methods}
-use Rattle.decl_reader.specs.Calls.{sections_of, ahead_of}
+use Rattle.block_reader.specs.Calls.{sections_of, ahead_of}
 use Rattle.decl_reader.specs.Progress.{known}
 use Rattle.decl_reader.proofs.reading.Reading.read_methods.Goals as goal
 

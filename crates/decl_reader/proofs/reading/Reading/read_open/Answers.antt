@@ -7,7 +7,7 @@ use Rattle.std.proofs.lemmas.Result.{err_from_is_err_and}
 use Rattle.decl_reader.specs.declared.descent.Open.{Open}
 use Rattle.decl_reader.specs.declared.fault.DeclFault.{DeclFault}
 use Rattle.decl_reader.specs.Blocks.{table_of}
-use Rattle.decl_reader.specs.Calls.{sections_of}
+use Rattle.block_reader.specs.Calls.{sections_of}
 use Rattle.decl_reader.proofs.ProgressLemmas.{goes_on_twice, goes_on_as}
 use Rattle.decl_reader.proofs.DescentLoop.{Running, running_begins, none_goes_on, some_opens, some_smaller, returns_to, closing_adds, closing_outgrown, fault_resolves, never_full, known_smaller, last_first}
 use Rattle.decl_reader.proofs.reading.Reading.read_open.Goals as goal

@@ -1,6 +1,6 @@
 use Rattle.std.proofs.Common.{length}
 use Rattle.std.specs.Prelude.{reverse}
-use Rattle.decl_reader.specs.Calls.{sections_of}
+use Rattle.block_reader.specs.Calls.{sections_of}
 use Rattle.decl_reader.specs.Progress.{known}
 use Rattle.decl_reader.proofs.ProgressLemmas.{HasGoneOn}
 use Rattle.decl_reader.proofs.DescentLoop.{Running, all_weight}

@@ -4,8 +4,8 @@ use Rattle.type_terms.specs.Trees.{Tree}
 use Rattle.type_terms.specs.Additions.{AddsOnly}
 use Rattle.decl_spelling.specs.Reading.{list_at}
 use Rattle.decl_spelling.specs.Declarations.{receiver_at}
-use Rattle.decl_reader.specs.Calls.{sections_of, ahead_of, Stops}
-use Rattle.decl_reader.specs.Forms.{receiver_shape}
+use Rattle.block_reader.specs.Calls.{sections_of, ahead_of, Stops}
+use Rattle.block_reader.specs.Parts.{receiver_spelled}
 use Rattle.decl_reader.specs.Progress.{known}
 use Rattle.decl_reader.proofs.LeftDeclLemmas.{part_left, part_left_first}
 use Rattle.decl_reader.proofs.reading.Reading.read_receiver_types.Goals as goal
@@ -15,7 +15,7 @@ returns-in_err-know_types-in-Ok-clause-adds g c =
     let src = sections_of c.args.parts.now in
     let done = known c.args.self.now in
     subst (λ (ts : List Tree). AddsOnly ts c.args.self.now.arena.now c.know_types.new.self.arena.now)
-    (part_left src c.args.offset (list_at (receiver_at src) (ahead_of c.args.block.now)) done (map receiver_shape c.in-Ok.receivers.items) (ahead_of c.read_receivers.new.block) c.in-Ok.ensures) c.know_types.ensures.adds
+    (part_left src c.args.offset (list_at (receiver_at src) (ahead_of c.args.block.now)) done (map receiver_spelled c.in-Ok.receivers.items) (ahead_of c.read_receivers.new.block) c.in-Ok.ensures) c.know_types.ensures.adds
 
 pub returns-in_err-know_types-in-Err-Bytes-clause-adds : goal.returns-in_err-know_types-in-Err-Bytes-clause-adds
 returns-in_err-know_types-in-Err-Bytes-clause-adds g c =
@@ -30,7 +30,7 @@ returns-in_ok-know_types-in-Ok-clause-adds g c =
     let src = sections_of c.args.parts.now in
     let done = known c.args.self.now in
     subst (λ (ts : List Tree). AddsOnly ts c.args.self.now.arena.now c.know_types.new.self.arena.now)
-    (part_left src c.args.offset (list_at (receiver_at src) (ahead_of c.args.block.now)) done (map receiver_shape c.in-Ok.receivers.items) (ahead_of c.read_receivers.new.block) c.in-Ok.ensures) c.know_types.ensures.adds
+    (part_left src c.args.offset (list_at (receiver_at src) (ahead_of c.args.block.now)) done (map receiver_spelled c.in-Ok.receivers.items) (ahead_of c.read_receivers.new.block) c.in-Ok.ensures) c.know_types.ensures.adds
 
 pub returns-in_ok-know_types-in-Err-Bytes-clause-adds : goal.returns-in_ok-know_types-in-Err-Bytes-clause-adds
 returns-in_ok-know_types-in-Err-Bytes-clause-adds g c =

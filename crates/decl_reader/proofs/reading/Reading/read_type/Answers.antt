@@ -7,7 +7,7 @@ use Rattle.decl_reader.proofs.DescentLoop.{begun_left}
 use Rattle.std.proofs.Common.{subst, Ok, Option}
 use Rattle.decl_reader.specs.declared.descent.Open.{Open}
 use Rattle.decl_reader.specs.Blocks.{table_of}
-use Rattle.decl_reader.specs.Calls.{sections_of}
+use Rattle.block_reader.specs.Calls.{sections_of}
 use Rattle.decl_reader.specs.Opens.{Begins}
 use Rattle.decl_reader.proofs.DescentLoop.{begun_is, resolves_as}
 use Rattle.decl_reader.proofs.reading.Reading.read_type.Goals as goal

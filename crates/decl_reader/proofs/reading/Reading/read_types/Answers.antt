@@ -1,7 +1,7 @@
 use Rattle.std.proofs.lemmas.Result.{err_from_is_err_and}
 use Rattle.decl_reader.proofs.WantLemmas.{passed}
 use Rattle.std.proofs.Common.{Ok}
-use Rattle.decl_reader.specs.Calls.{sections_of}
+use Rattle.block_reader.specs.Calls.{sections_of}
 use Rattle.decl_reader.specs.Progress.{known}
 use Rattle.decl_reader.proofs.ProgressLemmas.{goes_on_twice, goes_on_as}
 use Rattle.decl_reader.proofs.DescentLoop.{reads_on, mention_adds, mention_outgrown}

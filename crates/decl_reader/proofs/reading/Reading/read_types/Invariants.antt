@@ -1,4 +1,4 @@
-use Rattle.decl_reader.specs.Calls.{sections_of}
+use Rattle.block_reader.specs.Calls.{sections_of}
 use Rattle.decl_reader.specs.Progress.{known}
 use Rattle.decl_reader.proofs.ProgressLemmas.{HasGoneOn}
 use Rattle.decl_reader.proofs.DescentLoop.{Reading}

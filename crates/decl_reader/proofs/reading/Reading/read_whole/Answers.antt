@@ -12,11 +12,11 @@ use Rattle.std.proofs.lemmas.Result.{err_from_is_err_and}
 use Rattle.wire_bytes.specs.Reading.{place}
 use Rattle.decl_spelling.specs.Declarations.{Read}
 use Rattle.decl_reader.specs.Blocks.{table_of}
-use Rattle.decl_reader.specs.Calls.{sections_of, ahead_of}
-use Rattle.decl_reader.specs.Forms.{head_shape, decl_form}
+use Rattle.block_reader.specs.Calls.{sections_of, ahead_of}
+use Rattle.block_reader.specs.Parts.{head_spelled, form_spelled, value_spelled}
 use Rattle.decl_reader.proofs.BegunLemmas.{body_length}
 use Rattle.decl_reader.proofs.CountsLemmas.{counts_first, counts_twice, counts_most, if_either, lies_in, reached_is, reached_most, counts_reached}
-use Rattle.decl_reader.proofs.WholeLemmas.{first_is, whole_read, first_faults, rest_faults, kept_is, fault_as}
+use Rattle.decl_reader.proofs.WholeLemmas.{up_to_types, first_is, whole_read, first_faults, rest_faults, kept_is, fault_as}
 use Rattle.decl_reader.proofs.reading.Reading.read_whole.Goals as goal
 
 pub returns-in_err-head-clause-exact : goal.returns-in_err-head-clause-exact
@@ -33,14 +33,14 @@ returns-in_err-whole-clause-exact g c =
     let basics = g.B.Basics.meaning c.args.basics.now in
     let p = err_from_is_err_and c.from_residual-in_err-whole.result c.from_residual-in_err-whole.ensures.1 in
     let same = first_is src basics c.args.offset (ahead_of c.args.block.now) _ _ c.requires.block (body_length c.args.parts.now c.requires.of_file) (ap (table_of c.args.self.now.arena.now.nodes) c.requires.empty) in
-    rw (p.1, p.2) (rest_faults src basics c.args.offset (head_shape c.in_ok-head.head) _ _ c.in_err-whole.field-0.0 (sym same ∙ c.in_ok-head.ensures.exact) c.in_err-whole.ensures.exact)
+    rw (p.1, p.2) (rest_faults src basics c.args.offset (head_spelled c.in_ok-head.head) _ _ c.in_err-whole.field-0.0 (sym same ∙ c.in_ok-head.ensures.exact) c.in_err-whole.ensures.exact)
 
 pub returns-clause-exact : goal.returns-clause-exact
 returns-clause-exact g c =
     let src = sections_of c.args.parts.now in
     let basics = g.B.Basics.meaning c.args.basics.now in
     let same = first_is src basics c.args.offset (ahead_of c.args.block.now) _ _ c.requires.block (body_length c.args.parts.now c.requires.of_file) (ap (table_of c.args.self.now.arena.now.nodes) c.requires.empty) in
-    kept_is src basics c.args.offset (head_shape c.in_ok-head.head) _ _ _ c.add_declaration.new.arena.nodes c.add_declaration.result (sym same ∙ c.in_ok-head.ensures.exact) c.in_ok-whole.ensures.exact
+    kept_is src basics c.args.offset (head_spelled c.in_ok-head.head) _ _ _ c.add_declaration.new.arena.nodes c.add_declaration.result (sym same ∙ c.in_ok-head.ensures.exact) c.in_ok-whole.ensures.exact
     c.add_declaration.ensures.denotes c.add_declaration.ensures.only_memory
 
 pub returns-in_err-head-clause-at_most : goal.returns-in_err-head-clause-at_most
@@ -66,8 +66,8 @@ overflow_sub-end g c =
     let same = first_is src basics c.args.offset (ahead_of c.args.block.now) _ _ c.requires.block size (ap (table_of c.args.self.now.arena.now.nodes) c.requires.empty) in
     let nodes = c.read_rest.new.self.arena.now.nodes in
     let entries = c.read_rest.new.self.table.now in
-    let x : Read = record { form = decl_form c.in_ok-whole.whole; end = place (ahead_of c.read_rest.new.block).spot; table = table_of nodes entries } in
-    let is = whole_read src basics c.args.offset (head_shape c.in_ok-head.head) _ _ x (sym same ∙ c.in_ok-head.ensures.exact) c.in_ok-whole.ensures.exact in
+    let x : Read = record { form = form_spelled c.in_ok-whole.whole; value = value_spelled c.in_ok-whole.whole; end = place (ahead_of c.read_rest.new.block).spot; table = table_of nodes entries } in
+    let is = whole_read src basics c.args.offset (head_spelled c.in_ok-head.head) _ _ x (sym same ∙ c.in_ok-head.ensures.exact) c.in_ok-whole.ensures.exact in
     let lies = lies_in src basics c.requires.bytes c.args.offset x is in
     omega (arith, lies.0, c.place.ensures.place)
 
@@ -80,8 +80,8 @@ overflow_sub-end-2 g c =
     let same = first_is src basics c.args.offset (ahead_of c.args.block.now) _ _ c.requires.block size (ap (table_of c.args.self.now.arena.now.nodes) c.requires.empty) in
     let nodes = c.read_rest.new.self.arena.now.nodes in
     let entries = c.read_rest.new.self.table.now in
-    let x : Read = record { form = decl_form c.in_ok-whole.whole; end = place (ahead_of c.read_rest.new.block).spot; table = table_of nodes entries } in
-    let is = whole_read src basics c.args.offset (head_shape c.in_ok-head.head) _ _ x (sym same ∙ c.in_ok-head.ensures.exact) c.in_ok-whole.ensures.exact in
+    let x : Read = record { form = form_spelled c.in_ok-whole.whole; value = value_spelled c.in_ok-whole.whole; end = place (ahead_of c.read_rest.new.block).spot; table = table_of nodes entries } in
+    let is = whole_read src basics c.args.offset (head_spelled c.in_ok-head.head) _ _ x (sym same ∙ c.in_ok-head.ensures.exact) c.in_ok-whole.ensures.exact in
     let lies = lies_in src basics c.requires.bytes c.args.offset x is in
     omega (arith, lies.0, c.place.ensures.place)
 
@@ -94,8 +94,8 @@ returns-clause-counted g c =
     let same = first_is src basics c.args.offset (ahead_of c.args.block.now) _ _ c.requires.block size (ap (table_of c.args.self.now.arena.now.nodes) c.requires.empty) in
     let nodes = c.read_rest.new.self.arena.now.nodes in
     let entries = c.read_rest.new.self.table.now in
-    let x : Read = record { form = decl_form c.in_ok-whole.whole; end = place (ahead_of c.read_rest.new.block).spot; table = table_of nodes entries } in
-    let is = whole_read src basics c.args.offset (head_shape c.in_ok-head.head) _ _ x (sym same ∙ c.in_ok-head.ensures.exact) c.in_ok-whole.ensures.exact in
+    let x : Read = record { form = form_spelled c.in_ok-whole.whole; value = value_spelled c.in_ok-whole.whole; end = place (ahead_of c.read_rest.new.block).spot; table = table_of nodes entries } in
+    let is = whole_read src basics c.args.offset (head_spelled c.in_ok-head.head) _ _ x (sym same ∙ c.in_ok-head.ensures.exact) c.in_ok-whole.ensures.exact in
     let counts = counts_first c.args.self.now.steps.now c.read_rest.new.self.steps.now c.args.self.now.table.now entries c.requires.empty
     (counts_twice c.args.self.now.steps.now c.read_head_types.new.self.steps.now c.read_rest.new.self.steps.now c.args.self.now.table.now c.read_head_types.new.self.table.now entries c.read_head_types.ensures.goes_on.counted c.read_rest.ensures.goes_on.counted) in
     let more = c.place.result - p.body_at - c.args.offset in
@@ -112,8 +112,8 @@ returns-clause-at_most g c =
     let same = first_is src basics c.args.offset (ahead_of c.args.block.now) _ _ c.requires.block size (ap (table_of c.args.self.now.arena.now.nodes) c.requires.empty) in
     let nodes = c.read_rest.new.self.arena.now.nodes in
     let entries = c.read_rest.new.self.table.now in
-    let x : Read = record { form = decl_form c.in_ok-whole.whole; end = place (ahead_of c.read_rest.new.block).spot; table = table_of nodes entries } in
-    let is = whole_read src basics c.args.offset (head_shape c.in_ok-head.head) _ _ x (sym same ∙ c.in_ok-head.ensures.exact) c.in_ok-whole.ensures.exact in
+    let x : Read = record { form = form_spelled c.in_ok-whole.whole; value = value_spelled c.in_ok-whole.whole; end = place (ahead_of c.read_rest.new.block).spot; table = table_of nodes entries } in
+    let is = whole_read src basics c.args.offset (head_spelled c.in_ok-head.head) _ _ x (sym same ∙ c.in_ok-head.ensures.exact) c.in_ok-whole.ensures.exact in
     let counts = counts_first c.args.self.now.steps.now c.read_rest.new.self.steps.now c.args.self.now.table.now entries c.requires.empty
     (counts_twice c.args.self.now.steps.now c.read_head_types.new.self.steps.now c.read_rest.new.self.steps.now c.args.self.now.table.now c.read_head_types.new.self.table.now entries c.read_head_types.ensures.goes_on.counted c.read_rest.ensures.goes_on.counted) in
     let more = c.place.result - p.body_at - c.args.offset in
@@ -179,7 +179,7 @@ returns-in_err-whole-clause-adds g c =
     let before = adds_more types head_part old mid head_covered c.read_head_types.ensures.adds in
     let first = sym (first_is src basics offset a _ _ c.requires.block size none) ∙ c.in_ok-head.ensures.exact in
     let last = c.read_rest.new.self.arena.now in
-    let rest_covered = rest_covers src basics c.requires.bytes offset within (head_shape c.in_ok-head.head) _ _ first in
+    let rest_covered = rest_covers src basics c.requires.bytes offset within (head_spelled c.in_ok-head.head) _ _ first in
     let so_far = additions_join old mid last types before c.read_rest.ensures.goes_on.adds.extends (adds_more types _ mid last rest_covered c.read_rest.ensures.adds) in
     so_far
 
@@ -203,7 +203,7 @@ returns-in_err-whole-clause-outgrown g c wants =
     let before = adds_more types head_part old mid head_covered c.read_head_types.ensures.adds in
     let first = sym (first_is src basics offset a _ _ c.requires.block size none) ∙ c.in_ok-head.ensures.exact in
     let last = c.read_rest.new.self.arena.now in
-    let rest_covered = rest_covers src basics c.requires.bytes offset within (head_shape c.in_ok-head.head) _ _ first in
+    let rest_covered = rest_covers src basics c.requires.bytes offset within (head_spelled c.in_ok-head.head) _ _ first in
     let so_far = additions_join old mid last types before c.read_rest.ensures.goes_on.adds.extends (adds_more types _ mid last rest_covered c.read_rest.ensures.adds) in
     want_of_nodes_joins old mid types c.read_head_types.ensures.goes_on.adds.extends before
     (outgrown_by_more mid types _ rest_covered (c.read_rest.ensures.outgrown (passed c.from_residual-in_err-whole.result c.read_rest.result e.0 c.in_err-whole.field-0.0 e.1 e.2 c.in_err-whole.was wants)))
@@ -227,10 +227,10 @@ returns-clause-adds g c =
     let before = adds_more types head_part old mid head_covered c.read_head_types.ensures.adds in
     let first = sym (first_is src basics offset a _ _ c.requires.block size none) ∙ c.in_ok-head.ensures.exact in
     let last = c.read_rest.new.self.arena.now in
-    let rest_covered = rest_covers src basics c.requires.bytes offset within (head_shape c.in_ok-head.head) _ _ first in
+    let rest_covered = rest_covers src basics c.requires.bytes offset within (head_spelled c.in_ok-head.head) _ _ first in
     let so_far = additions_join old mid last types before c.read_rest.ensures.goes_on.adds.extends (adds_more types _ mid last rest_covered c.read_rest.ensures.adds) in
-    let x : Read = record { form = decl_form c.in_ok-whole.whole; end = place (ahead_of c.read_rest.new.block).spot; table = table_of last.nodes c.read_rest.new.self.table.now } in
-    let is = decl_types src basics c.requires.bytes offset within (head_shape c.in_ok-head.head) _ _ x first c.in_ok-whole.ensures.exact in
+    let x : Read = record { form = form_spelled c.in_ok-whole.whole; value = value_spelled c.in_ok-whole.whole; end = place (ahead_of c.read_rest.new.block).spot; table = table_of last.nodes c.read_rest.new.self.table.now } in
+    let is = decl_types src basics c.requires.bytes offset within (head_spelled c.in_ok-head.head) _ _ x first c.in_ok-whole.ensures.exact in
     additions_join old last c.add_declaration.new.arena types so_far c.add_declaration.ensures.extends (subst (λ (ts : List Tree). AddsOnly ts last c.add_declaration.new.arena) (sym is) c.add_declaration.ensures.adds)
 
 pub returns-clause-outgrown : goal.returns-clause-outgrown
@@ -252,9 +252,14 @@ returns-clause-outgrown g c wants =
     let before = adds_more types head_part old mid head_covered c.read_head_types.ensures.adds in
     let first = sym (first_is src basics offset a _ _ c.requires.block size none) ∙ c.in_ok-head.ensures.exact in
     let last = c.read_rest.new.self.arena.now in
-    let rest_covered = rest_covers src basics c.requires.bytes offset within (head_shape c.in_ok-head.head) _ _ first in
+    let rest_covered = rest_covers src basics c.requires.bytes offset within (head_spelled c.in_ok-head.head) _ _ first in
     let so_far = additions_join old mid last types before c.read_rest.ensures.goes_on.adds.extends (adds_more types _ mid last rest_covered c.read_rest.ensures.adds) in
-    let x : Read = record { form = decl_form c.in_ok-whole.whole; end = place (ahead_of c.read_rest.new.block).spot; table = table_of last.nodes c.read_rest.new.self.table.now } in
-    let is = decl_types src basics c.requires.bytes offset within (head_shape c.in_ok-head.head) _ _ x first c.in_ok-whole.ensures.exact in
+    let x : Read = record { form = form_spelled c.in_ok-whole.whole; value = value_spelled c.in_ok-whole.whole; end = place (ahead_of c.read_rest.new.block).spot; table = table_of last.nodes c.read_rest.new.self.table.now } in
+    let is = decl_types src basics c.requires.bytes offset within (head_spelled c.in_ok-head.head) _ _ x first c.in_ok-whole.ensures.exact in
     want_of_nodes_joins old last types (extends_again old mid last c.read_head_types.ensures.goes_on.adds.extends c.read_rest.ensures.goes_on.adds.extends) so_far
     (subst (Outgrows last) (sym is) (c.add_declaration.ensures.outgrown wants))
+
+pub read_rest-requires-clause-whole : goal.read_rest-requires-clause-whole
+read_rest-requires-clause-whole g c =
+    let src = sections_of c.args.parts.now in
+    up_to_types src c.requires.bytes c.args.offset _ c.in_ok-head.head _ _ _ _ c.requires.block c.in_ok-head.ensures.exact

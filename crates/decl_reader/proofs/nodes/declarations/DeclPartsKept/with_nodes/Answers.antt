@@ -1,6 +1,6 @@
 use Rattle.std.proofs.Common.{map, sym, subst}
 use Rattle.type_terms.specs.Additions.{AddsOnly}
-use Rattle.decl_reader.specs.declared.flat.declarations.DeclParts.{DeclParts}
+use Rattle.block_reader.specs.declared.declarations.DeclParts.{DeclParts}
 use Rattle.decl_reader.specs.Forms.{decl_form}
 use Rattle.type_terms.specs.Declarations.{form_types}
 use Rattle.decl_reader.specs.Meant.{named_by}

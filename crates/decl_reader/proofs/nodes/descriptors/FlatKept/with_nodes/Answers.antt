@@ -1,6 +1,6 @@
 use Rattle.std.proofs.Common.{map, sym, subst}
 use Rattle.type_terms.specs.Additions.{AddsOnly}
-use Rattle.decl_reader.specs.declared.flat.descriptors.Flat.{Flat}
+use Rattle.block_reader.specs.declared.descriptors.Flat.{Flat}
 use Rattle.decl_reader.specs.Shapes.{flat_shape}
 use Rattle.type_terms.specs.Shapes.{shape_types}
 use Rattle.decl_reader.specs.Meant.{named_by}

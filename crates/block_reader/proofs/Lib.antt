@@ -1,0 +1,3 @@
+pub mod StopsLemmas
+pub mod TimesLemmas
+pub mod FileBytes

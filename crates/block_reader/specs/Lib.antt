@@ -1,0 +1,4 @@
+pub mod Calls
+pub mod Spelled
+pub mod Parts
+pub mod Spellings

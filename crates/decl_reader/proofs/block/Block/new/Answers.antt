@@ -1,5 +1,0 @@
-use Rattle.decl_reader.proofs.WholeLemmas.{holds_bytes}
-use Rattle.decl_reader.proofs.block.Block.new.Goals as goal
-
-pub returns-clause-bytes : goal.returns-clause-bytes
-returns-clause-bytes c = holds_bytes c.args.parts.now c.cursor.ensures.bytes
