@@ -2,3 +2,4 @@ pub mod Spots
 pub mod Visits
 pub mod Seen
 pub mod Rows
+pub mod Rules

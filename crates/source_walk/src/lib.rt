@@ -4,6 +4,7 @@
 
 mod files;
 mod parsed;
+mod rules;
 mod spots;
 mod tops;
 mod types;
@@ -11,6 +12,7 @@ mod visitor;
 
 pub use files::{visit_file, visit_files};
 pub use parsed::ParsedFile;
+pub use rules::{Rule, first_place};
 pub use spots::{Role, Spot, Zone};
 pub use tops::visit_top;
 pub use types::{visit_expr, visit_sig, visit_type};
