@@ -1,0 +1,144 @@
+-- Names that are declared twice, or that may not be declared.
+use Rattle.std.specs.Prelude.{ℕ, suc, Bool, true, false, if◌then◌else◌, List, [], ◌∷◌, ◌++◌, Option, Some, None}
+use Rattle.go_type_syntax.specs.PlainTypes as t
+use Rattle.go_type_syntax.specs.PlainTypes.{PlainParams, PlainFields, PlainElems, signature, no_param}
+use Rattle.go_type_syntax.specs.PlainTypes.{and_param, sharing, no_field, and_field, having, no_elem, and_elem, method}
+use Rattle.go_type_syntax.specs.PlainTypes.{embedded}
+use Rattle.source_places.specs.declared.places.Place.{Place}
+use Rattle.source_trees.specs.declared.literals.Literal.{Literal}
+use Rattle.source_trees.specs.Trees.{WrittenType, WrittenSig}
+use Rattle.source_trees.specs.Words.{Word}
+use Rattle.source_trees.specs.Files.{WrittenImport, WrittenTParam, WrittenReceiver, WrittenTop, WrittenFile, constants}
+use Rattle.source_trees.specs.Files.{variables, defined, alias, func}
+use Rattle.source_walk.specs.Spots.{tparam_words, receiver_words}
+use Rattle.source_walk.specs.Visits.{Visit, a_file, a_top, a_type, an_expr, files_visits}
+use Rattle.source_names.specs.Names.{Named, same_text, init, words_at, files_named}
+use Rattle.source_names.specs.Repeats.{repeats, common}
+
+-- ---- lists of names in a declaration
+
+abbrev pub params_words : PlainParams Word Literal → List Word
+params_words no_param = []
+params_words (and_param (sharing names variadic ty at) ps) = names ++ params_words ps
+
+-- the name of an embedded field: that of its type, without a package
+abbrev pub embedded_word : WrittenType → List Word
+embedded_word (t.named x args at) = x.name ∷ []
+embedded_word (t.pointer (t.named x args at) place) = x.name ∷ []
+embedded_word _ = []
+
+abbrev pub field_words : List Word → WrittenType → List Word
+field_words [] ty = embedded_word ty
+field_words (w ∷ ws) ty = w ∷ ws
+
+abbrev pub fields_words : PlainFields Word Literal → List Word
+fields_words no_field = []
+fields_words (and_field (having names ty tag at) fs) = field_words names ty ++ fields_words fs
+
+abbrev pub methods_words : PlainElems Word Literal → List Word
+methods_words no_elem = []
+methods_words (and_elem (method name sig at) es) = name ∷ methods_words es
+methods_words (and_elem (embedded ty at) es) = methods_words es
+
+-- parameters and results are two lists
+abbrev pub in_sig : ℕ → WrittenSig → List Place
+in_sig file (signature ps rs at) =
+    repeats (words_at file (params_words ps)) ++ repeats (words_at file (params_words rs))
+
+abbrev pub in_type : ℕ → WrittenType → List Place
+in_type file (t.func sig at) = in_sig file sig
+in_type file (t.struct fields at) = repeats (words_at file (fields_words fields))
+in_type file (t.interface elems at) = repeats (words_at file (methods_words elems))
+in_type file _ = []
+
+abbrev pub in_top : ℕ → WrittenTop → List Place
+in_top file (constants c) = []
+in_top file (variables v) = []
+in_top file (defined d) = repeats (words_at file (tparam_words d.tparams))
+in_top file (alias d) = repeats (words_at file (tparam_words d.tparams))
+in_top file (func f) =
+    repeats (words_at file (receiver_words f.receiver)) ++ repeats (words_at file (tparam_words f.tparams))
+    ++ in_sig file f.sig
+
+-- ---- names called `init`
+
+abbrev pub inits : ℕ → List Word → List Place
+inits file [] = []
+inits file (w ∷ ws) =
+    if same_text w.text init then (record { file = file; at = w.at } ∷ inits file ws) else inits file ws
+
+abbrev pub is_bare : List WrittenTParam → WrittenSig → Bool
+is_bare [] (signature no_param no_param at) = true
+is_bare _ _ = false
+
+-- a function `init` with type parameters, parameters or results
+abbrev pub func_inits : ℕ → Option WrittenReceiver → Bool → Word → List Place
+func_inits file (Some r) bare name = []
+func_inits file None true name = []
+func_inits file None false name = inits file (name ∷ [])
+
+abbrev pub top_inits : ℕ → WrittenTop → List Place
+top_inits file (constants c) = inits file c.names
+top_inits file (variables v) = inits file v.names
+top_inits file (defined d) = inits file (d.name ∷ [])
+top_inits file (alias d) = inits file (d.name ∷ [])
+top_inits file (func f) = func_inits file f.receiver (is_bare f.tparams f.sig) f.name
+
+abbrev pub renamed : List WrittenImport → List Word
+renamed [] = []
+renamed (i ∷ is) = by_name i.name ++ renamed is
+  where
+    by_name : Option Word → List Word
+    by_name (Some w) = w ∷ []
+    by_name None = []
+
+-- at a visit: in a struct, an interface, a signature or a list of type parameters, and names called `init`
+abbrev pub duplicates_at : Visit → List Place
+duplicates_at (a_file n f) = inits n (renamed f.imports)
+duplicates_at (a_top s top) = in_top s.file top ++ top_inits s.file top
+duplicates_at (a_type s w ty) = in_type s.file ty
+duplicates_at (an_expr s w e) = []
+
+-- ---- imports
+
+-- the word that an import declares in its file: its own name, or that of the package, at the path
+abbrev pub import_words : (List ℕ → Option (List ℕ)) → List WrittenImport → List Word
+import_words package_name [] = []
+import_words package_name (i ∷ is) = of_name i.name (package_name i.path) ++ import_words package_name is
+  where
+    of_name : Option Word → Option (List ℕ) → List Word
+    of_name (Some w) found = w ∷ []
+    of_name None (Some name) = record { text = name; at = i.at } ∷ []
+    of_name None None = []
+
+-- the imports of each file against each other and against the names of the package
+abbrev pub import_duplicates : (List ℕ → Option (List ℕ)) → List Named → ℕ → List WrittenFile → List Place
+import_duplicates package_name all n [] = []
+import_duplicates package_name all n (f ∷ fs) =
+    repeats (words_at n (import_words package_name f.imports))
+    ++ common (words_at n (import_words package_name f.imports)) all
+    ++ import_duplicates package_name all (suc n) fs
+
+-- ---- package clauses
+
+-- the names in package clauses that differ from this one
+abbrev pub other_packages : List ℕ → ℕ → List WrittenFile → List Place
+other_packages name n [] = []
+other_packages name n (f ∷ fs) = if same_text f.name.text name then other_packages name (suc n) fs
+    else (record { file = n; at = f.name.at } ∷ other_packages name (suc n) fs)
+
+abbrev pub package_duplicates : List WrittenFile → List Place
+package_duplicates [] = []
+package_duplicates (f ∷ fs) = other_packages f.name.text 0 (f ∷ fs)
+
+-- ---- all of them
+
+abbrev pub visited : List Visit → List Place
+visited [] = []
+visited (v ∷ vs) = duplicates_at v ++ visited vs
+
+-- all places of the files of a package, where the names of packages are given by their paths
+abbrev pub duplicates : (List ℕ → Option (List ℕ)) → List WrittenFile → List Place
+duplicates package_name files =
+    repeats (files_named 0 files) ++ import_duplicates package_name (files_named 0 files) 0 files
+    ++ package_duplicates files ++ visited (files_visits files)

@@ -1,0 +1,4 @@
+pub mod Names
+pub mod Repeats
+pub mod VarTypes
+pub mod Duplicates
