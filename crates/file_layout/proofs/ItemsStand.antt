@@ -123,8 +123,10 @@ module _ (src : Sections) (texts : List Text) (number : Tree → ℕ) (strings_a
       let others = items_here (place_after before x) first.0 xs rest (stays_place before x from may.0) may.1 in
       let next = here_with (all_bytes_of (place_after before x) xs ++ rest) (place_after before x) first.0 in (
         others.0,
-        (next,
-        subst (λ (bs : List ℕ). IsItem src number (here_with bs before name) x next) (sym (append_assoc (bytes_of before x) (all_bytes_of (place_after before x) xs) rest))
-            first.1,
-        others.1),
+        (
+          next,
+          subst (λ (bs : List ℕ). IsItem src number (here_with bs before name) x next) (sym (append_assoc (bytes_of before x) (all_bytes_of (place_after before x) xs) rest))
+              first.1,
+          others.1,
+        ),
       )

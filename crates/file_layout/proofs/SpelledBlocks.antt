@@ -157,7 +157,6 @@ module _ (own : Text) (paths texts : List Text) (basics : Basics) (decls : QName
         found.tree,
       )
 
-
   names_all : {start end : ℕ} {piece : List Block → List ℕ} {items : List Item} → (lies : Lying start end piece items) → (ys : List TypeAt) → AllByRecursion (Placed lies.before) (map tree_at ys)
       → AllNamed src w.blocks start (map (known src (number_in lies.before)) ys)
   names_all {start} lies ys placed =
