@@ -1,5 +1,4 @@
 mod BasicLemmas
 mod WayLemmas
-mod KeptLemmas
 mod SideLemmas
 mod OnTheWay

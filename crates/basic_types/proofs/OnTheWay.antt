@@ -8,7 +8,6 @@ use Rattle.code_tables.specs.declared.predeclared.Basic.{Basic}
 use Rattle.go_values.specs.declared.qualified.QName.{QName}
 use Rattle.go_values.specs.contracts.qualified.QNameEq.TheImpl.Laws as qname_laws
 use Rattle.go_values.specs.Exact.{exact_qname}
-use Rattle.type_terms.specs.Additions.{Outgrows}
 use Rattle.type_terms.specs.Arenas.{Contents, Extends}
 use Rattle.type_terms.specs.Denotation.{tree}
 use Rattle.type_terms.specs.Extensions.{extends_tree}
@@ -16,11 +15,13 @@ use Rattle.type_terms.specs.Trees.{Tree}
 use Rattle.type_terms.specs.TreeEquality.{same_name}
 use Rattle.environments.specs.declared.declaring.EnvError.{EnvError}
 use Rattle.environments.specs.declared.declaring.EnvError.TheVariants.{Unknown, Damaged, TableFull, Nodes, OutOfMemory}
-use Rattle.environments.specs.Environments.{Entry, declared}
+use Rattle.environments.specs.Environments.{Entry, declared, entry_types}
+use Rattle.environments.specs.Kept.{World, Kept, OpensBehind}
+use Rattle.environments.specs.KeptLaws.{kept_again, kept_more, outgrown_before}
+use Rattle.environments.specs.OpenedTypes.{OutgrowsAmong}
 use Rattle.basic_types.specs.BasicTypes.{Entries, head_name, side_behind, itself, ComesDownTo, at_once, onward, IsReached, at_head, further, comes_down_within}
-use Rattle.basic_types.specs.Calls.{IsDeclared, IsBasicOf, World, Kept, Overfills, IsLed, Ends, no_name, no_type, again, Stops, Turns}
+use Rattle.basic_types.specs.Calls.{IsDeclared, AsksHead, OpensOnWay, IsBasicOf, IsLed, Ends, no_name, no_type, again, Stops, Turns}
 use Rattle.basic_types.proofs.BasicLemmas.{no_itself, is_predeclared, no_basic, none_yet, one_more, none_behind, by_itself, more_names, goes_down, reached_by_head, none_reached}
-use Rattle.basic_types.proofs.KeptLemmas.{kept_again, kept_more, kept_full, holds_more}
 use Rattle.basic_types.proofs.WayLemmas.{down_found}
 
 or_cases : (a b : Bool) → (a || b) ≡ true → (a ≡ true) ⊎ (b ≡ true)
@@ -252,18 +253,24 @@ module _ (entries : Entries) (names : List QName) where
           (sym (told ∙ ap itself (extends_tree before arena grown id below ∙ sym is)))
           (ended arena full (subst (λ e. Ends e met now) stay ends))
 
-    -- what the next call keeps, all calls do
-    pub kept_on : (old middle after : World) (before between last : Contents) → Kept (IsReached entries start) old middle before between
-        → Kept (λ q. head_name now ≡ Some q) middle after between last → Kept (IsReached entries start) old after before last
-    kept_on old middle after before between last first second =
-        kept_again (IsReached entries start) old middle after before between last first
-        (kept_more (λ q. head_name now ≡ Some q) (IsReached entries start) middle after between last head_reached second)
+      -- what the next call opens is behind names on the way
+      opens_on : (type : Tree) → OpensBehind later (AsksHead now) type → OpensOnWay entries start type
+      opens_on type (q, head, held) = (q, head_reached q head, subst (λ e. Contains (entry_types (e q)) type) stay held)
 
-    pub full_on : (old middle : World) (before between : Contents) → Kept (IsReached entries start) old middle before between
-        → Overfills middle.entries (λ q. head_name now ≡ Some q) between → Overfills old.entries (IsReached entries start) before
-    full_on old middle before between first full =
-        kept_full (IsReached entries start) old middle before between first
-        (holds_more middle.entries (λ q. head_name now ≡ Some q) (IsReached entries start) (Outgrows between) head_reached full)
+      -- what the next call keeps, all calls do
+      pub kept_on : (old middle after : World) (before between last : Contents)
+          → Kept (IsReached entries start) (OpensOnWay entries start) old middle before between
+          → Kept (AsksHead now) (OpensBehind later (AsksHead now)) middle after between last
+          → Kept (IsReached entries start) (OpensOnWay entries start) old after before last
+      kept_on old middle after before between last first second =
+          kept_again (IsReached entries start) (OpensOnWay entries start) old middle after before between last first
+          (kept_more (AsksHead now) (IsReached entries start) (OpensBehind later (AsksHead now)) (OpensOnWay entries start) middle after between last head_reached opens_on second)
+
+      pub full_on : (old middle : World) (before between : Contents)
+          → Kept (IsReached entries start) (OpensOnWay entries start) old middle before between
+          → OutgrowsAmong (OpensBehind later (AsksHead now)) between → OutgrowsAmong (OpensOnWay entries start) before
+      full_on old middle before between first outgrown =
+          outgrown_before (OpensBehind later (AsksHead now)) (OpensOnWay entries start) before between opens_on first.extends first.adds outgrown
 
 pub led_on : (entries later : Entries) → later ≡ entries → (old : List QName) (type : Tree) (new : List QName) (side : Tree)
     → IsLed later old type new side → IsLed entries old type new side

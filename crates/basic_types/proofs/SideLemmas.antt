@@ -6,8 +6,7 @@ use Rattle.go_values.specs.declared.qualified.QName.{QName}
 use Rattle.type_terms.specs.declared.descriptors.Node.{Node}
 use Rattle.type_terms.specs.declared.declarations.DeclNode.{DeclNode}
 use Rattle.type_terms.specs.declared.declarations.DeclNode.TheVariants.{Var, Func, Constant, Defined, Alias, Parameter}
-use Rattle.type_terms.specs.Additions.{AddsOnly}
-use Rattle.type_terms.specs.Arenas.{Contents, AllBelow, Extends}
+use Rattle.type_terms.specs.Arenas.{Contents, AllBelow}
 use Rattle.type_terms.specs.Declarations.{decl_form, decl_nodes, decl_of, receiver_types, receiver_shape}
 use Rattle.type_terms.specs.Denotation.{tree}
 use Rattle.type_terms.specs.Replaced.{all_right}
@@ -15,10 +14,9 @@ use Rattle.type_terms.specs.Trees.{Tree}
 use Rattle.environments.specs.declared.declaring.EnvError.{EnvError}
 use Rattle.environments.specs.declared.declaring.EnvError.TheVariants.{Unknown, Damaged, TableFull, Nodes, OutOfMemory}
 use Rattle.environments.specs.declared.given.Given.{Given}
-use Rattle.environments.specs.Environments.{Entry, given_decl, entry_types, Answers, AsksOnly}
+use Rattle.environments.specs.Environments.{Entry, given_decl, Answers}
 use Rattle.basic_types.specs.BasicTypes.{Entries, head_name, side_of, side_behind}
-use Rattle.basic_types.specs.Calls.{World, AsksAmong, Kept, GivesSide, Ends, no_type, again, Stops, Turns, Meets}
-use Rattle.basic_types.proofs.KeptLemmas.{holds_one}
+use Rattle.basic_types.specs.Calls.{GivesSide, Ends, no_type, again, Stops, Turns, Meets}
 
 side_meant : (nodes : List Node) (decl : DeclNode) → side_of (decl_of nodes decl) ≡ option_map (tree nodes) (side_of (decl_form decl))
 side_meant nodes (Var pos ty) = refl
@@ -46,24 +44,6 @@ gives_side entry q arena full given decl side answers is made =
       ap side_behind answers.0 ∙ side_meant arena.nodes (given_decl given) ∙ ap (option_map (tree arena.nodes)) (sym same),
       subst (λ o. IfSome o (λ id. id < length arena.nodes)) (sym same) (side_inside (length arena.nodes) (given_decl given) answers.1),
     )
-
-asks_one : (old new : Option (List QName)) (q : QName) → AsksOnly old q new → AsksAmong (λ name. name ≡ q) old new
-asks_one (Some old) (Some new) q asks = asks
-asks_one None None q asks = tt
-asks_one (Some old) None q asks = absurd asks
-asks_one None (Some new) q asks = absurd asks
-
-pub kept_by_declare : (old new : World) (q : QName) (before after : Contents) → new.entries ≡ old.entries → new.names ≡ old.names
-    → new.packages ≡ old.packages → AsksOnly old.asked q new.asked → Extends before after
-    → AddsOnly (entry_types (old.entries q)) before after → Kept (λ name. name ≡ q) old new before after
-kept_by_declare old new q before after entries names packages asks extends adds = record {
-  entries = entries;
-  names = names;
-  packages = packages;
-  asked = asks_one old.asked new.asked q asks;
-  extends = extends;
-  adds = holds_one old.entries (λ name. name ≡ q) (λ types. AddsOnly types before after) q refl adds;
-}
 
 module _ (entries : Entries) (old : List QName) (type : Tree) (q : QName) (head : head_name type ≡ Some q) where
   pub met_again : (new : List QName) → Meets old q new false → Ends entries old type

@@ -1,18 +1,18 @@
 -- What a call answers that asks an environment for the basic type of a type.
-use Rattle.std.specs.Prelude.{◌≡◌, ◌<◌, ◌⊎◌, ℕ, Bool, true, false, not, List, [], ◌∷◌, ◌++◌, length}
+use Rattle.std.specs.Prelude.{◌≡◌, ◌<◌, ℕ, Bool, true, false, not, List, [], ◌∷◌, ◌++◌, length}
 use Rattle.std.specs.Prelude.{Option, Some, None, Result, Ok, Err, IfSome, option_map}
-use Rattle.std.specs.List.{Contains, flat_map, list_any}
+use Rattle.std.specs.List.{list_any}
 use Rattle.code_tables.specs.declared.predeclared.Basic.{Basic}
 use Rattle.go_values.specs.declared.qualified.QName.{QName}
-use Rattle.type_terms.specs.Additions.{AddsOnly, Outgrows}
-use Rattle.type_terms.specs.Arenas.{Contents, Extends}
+use Rattle.type_terms.specs.Arenas.{Contents}
 use Rattle.type_terms.specs.Denotation.{tree}
 use Rattle.type_terms.specs.TreeEquality.{same_name}
-use Rattle.type_terms.specs.Trees.{Text, Tree}
+use Rattle.type_terms.specs.Trees.{Tree}
 use Rattle.type_terms.specs.Declarations.{Decl}
 use Rattle.environments.specs.declared.declaring.EnvError.{EnvError}
 use Rattle.environments.specs.declared.declaring.EnvError.TheVariants.{Unknown, Damaged, TableFull, Nodes, OutOfMemory}
-use Rattle.environments.specs.Environments.{Entry, declared, damaged, entry_types, Answers}
+use Rattle.environments.specs.Environments.{Entry, declared, damaged, Answers}
+use Rattle.environments.specs.Kept.{OpensBehind}
 use Rattle.basic_types.specs.BasicTypes.{Entries, head_name, side_behind, ComesDownTo, IsReached}
 
 abbrev pub IsDeclared : Option Entry → Type 0
@@ -31,46 +31,13 @@ IsBasicOf entries type arena full (Err TableFull) = full ≡ Some true
 IsBasicOf entries type arena full (Err Nodes) = length arena.nodes ≡ arena.limit
 IsBasicOf entries type arena full (Err OutOfMemory) = Unit {0}
 
--- what an environment means, where an arena has these nodes, and the names that it was asked for
-pub record World : Type 0 where
-  pub entries : Entries
-  pub names : List QName
-  pub packages : Text → Option Text
-  pub asked : Option (List QName)
+-- the name at the head of a type
+abbrev pub AsksHead : Tree → QName → Type 0
+AsksHead type q = head_name type ≡ Some q
 
-abbrev pub world : Entries → List QName → (Text → Option Text) → Option (List QName) → World
-world entries names packages asked = record { entries = entries; names = names; packages = packages; asked = asked }
-
--- Only such names came to those asked, and none was lost.
-abbrev pub AsksAmong : (QName → Type 0) → Option (List QName) → Option (List QName) → Type 0
-AsksAmong may (Some old) (Some new) = ((name : QName) → Contains new name → Contains old name ⊎ may name)
-    × ((name : QName) → Contains old name → Contains new name)
-AsksAmong may None None = Unit {0}
-AsksAmong may (Some old) None = ⊥
-AsksAmong may None (Some new) = ⊥
-
--- the types that a call may add to an arena that asks for these names
-abbrev pub types_behind : Entries → List QName → List Tree
-types_behind entries names = flat_map (λ q. entry_types (entries q)) names
-
--- it holds of the types behind some names, which are all of this kind
-abbrev pub HoldsBehind : Entries → (QName → Type 0) → (List Tree → Type 0) → Type 0
-HoldsBehind entries may holds = (names : List QName) × ((q : QName) → Contains names q → may q)
-    × holds (types_behind entries names)
-
--- What a call keeps: all that an environment means, and each node of the arena. It asks for such names alone, and what
--- it adds to the arena stands in what is behind these.
-pub record Kept (may : QName → Type 0) (old new : World) (before after : Contents) : Type 0 where
-  pub entries : new.entries ≡ old.entries
-  pub names : new.names ≡ old.names
-  pub packages : new.packages ≡ old.packages
-  pub asked : AsksAmong may old.asked new.asked
-  pub extends : Extends before after
-  pub adds : HoldsBehind old.entries may (λ types. AddsOnly types before after)
-
--- the nodes at entry and what is behind such names are more types than the arena may have
-abbrev pub Overfills : Entries → (QName → Type 0) → Contents → Type 0
-Overfills entries may arena = HoldsBehind entries may (Outgrows arena)
+-- the types that come with what stands behind the names on the way
+abbrev pub OpensOnWay : Entries → Tree → Tree → Type 0
+OpensOnWay entries type opened = OpensBehind entries (IsReached entries type) opened
 
 -- ---- one turn
 

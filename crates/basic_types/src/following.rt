@@ -1,11 +1,11 @@
 //! The names from a type on, followed to a predeclared type.
 
-ghost use Rattle.std.specs.Prelude.{◌≡◌, ◌<◌, Some, length, IfOk, IsErrOf};
+ghost use Rattle.std.specs.Prelude.{◌≡◌, ◌<◌, length, IfOk, IsErrOf};
 ghost use Rattle.type_terms.specs.Denotation.{tree};
-ghost use Rattle.environments.specs.Environments.{entry_types};
-ghost use Rattle.type_terms.specs.Additions.{Outgrows};
-ghost use Rattle.basic_types.specs.BasicTypes.{head_name, IsReached};
-ghost use Rattle.basic_types.specs.Calls.{IsBasicOf, world, Kept, Overfills, GivesSide, Meets, Turns};
+ghost use Rattle.environments.specs.Kept.{world, Kept, OpensBehind};
+ghost use Rattle.environments.specs.OpenedTypes.{OutgrowsAmong};
+ghost use Rattle.basic_types.specs.BasicTypes.{IsReached};
+ghost use Rattle.basic_types.specs.Calls.{AsksHead, OpensOnWay, IsBasicOf, GivesSide, Meets, Turns};
 
 use crate::heads::{head_at, predeclared_at, side_of};
 use code_tables::Basic;
@@ -31,11 +31,12 @@ pub fn basic_type<'a, E: Env<'a>>(
     ensures answer { IsBasicOf (E.entries env.old arena.old.nodes) (tree arena.old.nodes node) arena.new
         (E.full env.new) result }
     ensures kept { Kept (IsReached (E.entries env.old arena.old.nodes) (tree arena.old.nodes node))
+        (OpensOnWay (E.entries env.old arena.old.nodes) (tree arena.old.nodes node))
         (world (E.entries env.old arena.old.nodes) (E.names env.old) (E.packages env.old) (E.asked env.old))
         (world (E.entries env.new arena.new.nodes) (E.names env.new) (E.packages env.new) (E.asked env.new))
         arena.old arena.new }
-    ensures outgrown { IsErrOf result EnvError.Nodes → Overfills (E.entries env.old arena.old.nodes)
-        (IsReached (E.entries env.old arena.old.nodes) (tree arena.old.nodes node)) arena.old }
+    ensures outgrown { IsErrOf result EnvError.Nodes → OutgrowsAmong
+        (OpensOnWay (E.entries env.old arena.old.nodes) (tree arena.old.nodes node)) arena.old }
     ensures stands_after { E.stands env.new arena.new.nodes }
 {
     let mut met = IndexSet::new(alloc);
@@ -57,12 +58,13 @@ fn follow<'a, E: Env<'a>>(
     requires there { node < length arena.old.nodes }
     ensures turns { Turns (E.entries env.old arena.old.nodes) met.old.keys (tree arena.old.nodes node) met.new.keys
         arena.new (E.full env.new) result }
-    ensures kept { Kept (λ name. head_name (tree arena.old.nodes node) ≡ Some name)
+    ensures kept { Kept (AsksHead (tree arena.old.nodes node))
+        (OpensBehind (E.entries env.old arena.old.nodes) (AsksHead (tree arena.old.nodes node)))
         (world (E.entries env.old arena.old.nodes) (E.names env.old) (E.packages env.old) (E.asked env.old))
         (world (E.entries env.new arena.new.nodes) (E.names env.new) (E.packages env.new) (E.asked env.new))
         arena.old arena.new }
-    ensures outgrown { IsErrOf result EnvError.Nodes → Overfills (E.entries env.old arena.old.nodes)
-        (λ name. head_name (tree arena.old.nodes node) ≡ Some name) arena.old }
+    ensures outgrown { IsErrOf result EnvError.Nodes → OutgrowsAmong
+        (OpensBehind (E.entries env.old arena.old.nodes) (AsksHead (tree arena.old.nodes node))) arena.old }
     ensures stands_after { E.stands env.new arena.new.nodes }
 {
     let Ok(head) = head_at(arena, node) else {
@@ -97,11 +99,12 @@ fn side_behind<'a, E: Env<'a>>(
     requires stands { E.stands env.old arena.old.nodes }
     ensures gives { GivesSide (E.entries env.old arena.old.nodes q.now) q.now arena.new (E.full env.new) result }
     ensures kept { Kept (λ name. name ≡ q.now)
+        (OpensBehind (E.entries env.old arena.old.nodes) (λ name. name ≡ q.now))
         (world (E.entries env.old arena.old.nodes) (E.names env.old) (E.packages env.old) (E.asked env.old))
         (world (E.entries env.new arena.new.nodes) (E.names env.new) (E.packages env.new) (E.asked env.new))
         arena.old arena.new }
     ensures outgrown { IsErrOf result EnvError.Nodes
-        → Outgrows arena.old (entry_types (E.entries env.old arena.old.nodes q.now)) }
+        → OutgrowsAmong (OpensBehind (E.entries env.old arena.old.nodes) (λ name. name ≡ q.now)) arena.old }
     ensures stands_after { E.stands env.new arena.new.nodes }
 {
     match env.declare(q, arena) {

@@ -9,3 +9,6 @@ pub mod Roles
 pub mod PackageLists
 pub mod PackageListLaws
 pub mod PackageLaws
+pub mod OpenedTypes
+pub mod Kept
+pub mod KeptLaws

@@ -9,9 +9,11 @@ use Rattle.type_terms.specs.Trees.{Tree}
 use Rattle.replacement.specs.declared.faults.SetFault.{SetFault}
 use Rattle.replacement.specs.declared.faults.SetFault.TheVariants.{Nodes}
 use Rattle.replacement.specs.Expansion.{Entries, then, defined_use, beneath}
-use Rattle.replacement.specs.OpenedTypes.{AddsAmong}
-use Rattle.replacement.specs.Calls.{World, Kept, Gives, OpensDefined}
-use Rattle.replacement.proofs.KeptLemmas.{stops_more, stops_later, adds_wider, listed_outgrow, kept_more, kept_grown}
+use Rattle.environments.specs.OpenedTypes.{AddsAmong}
+use Rattle.environments.specs.Kept.{World, Kept}
+use Rattle.replacement.specs.Calls.{Gives, OpensDefined}
+use Rattle.environments.specs.KeptLaws.{adds_wider, listed_outgrow, kept_more, kept_grown}
+use Rattle.replacement.proofs.KeptLemmas.{stops_more, stops_later}
 use Rattle.type_sets.specs.Interfaces.{interface_of}
 use Rattle.interface_nodes.specs.declared.held.Held.{Held}
 use Rattle.interface_nodes.specs.HeldNodes.{meant, held_nodes, made_for}

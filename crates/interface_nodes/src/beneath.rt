@@ -3,7 +3,8 @@
 ghost use Rattle.std.specs.Prelude.{◌<◌, length, Option};
 ghost use Rattle.go_values.specs.declared.qualified.QName.{QName as Name};
 ghost use Rattle.type_terms.specs.Denotation.{tree};
-ghost use Rattle.replacement.specs.Calls.{world, Kept, AsksDefined};
+ghost use Rattle.environments.specs.Kept.{world, Kept};
+ghost use Rattle.replacement.specs.Calls.{AsksDefined};
 ghost use Rattle.interface_nodes.specs.Beneath.{interface_beneath, OpensInterface, GivesHeld};
 
 use crate::held::{Held, held_at};

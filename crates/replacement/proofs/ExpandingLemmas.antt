@@ -16,7 +16,7 @@ use Rattle.replacement.specs.declared.faults.SetFault.{SetFault}
 use Rattle.replacement.specs.declared.faults.SetFault.TheVariants.{AliasCycle}
 use Rattle.replacement.specs.Expansion.{Entries, Applied, AreNames, then, alias_use, alias_right, led, expanded_from, expanded}
 use Rattle.replacement.specs.Calls.{LeadsTo, itself, further, AsksAlias, OpensAlias, AsksExpanding, OpensExpanding, OpensSide, IsLed, Leads, Stops, Gives}
-use Rattle.replacement.specs.OpenedTypes.{AddsAmong}
+use Rattle.environments.specs.OpenedTypes.{AddsAmong}
 use Rattle.replacement.proofs.KeptLemmas.{stops_later, stops_more}
 use Rattle.replacement.proofs.ExpansionLemmas.{AreMet, alias_known, one_more, none_met}
 

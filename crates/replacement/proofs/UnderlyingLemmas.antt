@@ -6,9 +6,11 @@ use Rattle.type_terms.specs.Arenas.{Contents, Extends}
 use Rattle.type_terms.specs.Trees.{Tree}
 use Rattle.replacement.specs.declared.faults.SetFault.{SetFault}
 use Rattle.replacement.specs.Expansion.{Entries, Applied, then, defined_use, defined_right, beneath, expanded, underlying}
-use Rattle.replacement.specs.OpenedTypes.{AddsAmong}
-use Rattle.replacement.specs.Calls.{World, Kept, Gives, OpensSide, AsksDefined, OpensDefined, AsksExpanding, OpensExpanding, AsksUnder, OpensUnder}
-use Rattle.replacement.proofs.KeptLemmas.{stops_more, stops_later, adds_wider, kept_again, kept_more}
+use Rattle.environments.specs.OpenedTypes.{AddsAmong}
+use Rattle.environments.specs.Kept.{World, Kept}
+use Rattle.replacement.specs.Calls.{Gives, OpensSide, AsksDefined, OpensDefined, AsksExpanding, OpensExpanding, AsksUnder, OpensUnder}
+use Rattle.environments.specs.KeptLaws.{adds_wider, kept_again, kept_more}
+use Rattle.replacement.proofs.KeptLemmas.{stops_more, stops_later}
 
 -- an answer is that of the type
 pub beneath_gives : (entries : Entries) (type : Tree) (head : Applied) → defined_use type ≡ Some head → (before after : Contents) (full : Option Bool) (result : Result ℕ SetFault)

@@ -1,4 +1,4 @@
--- What calls that ask an environment keep of it and of an arena, and why they stop.
+-- What calls that ask an environment answer, and why they stop.
 use Rattle.std.specs.Prelude.{◌≡◌, ◌<◌, ◌⊎◌, ℕ, Bool, true, false, not, List, [], ◌∷◌, ◌++◌, length, map}
 use Rattle.std.specs.Prelude.{Option, Some, None, Result, Ok, Err, IsSomeAnd, IsOkAnd}
 use Rattle.std.specs.List.{Contains, list_any}
@@ -7,46 +7,17 @@ use Rattle.environments.specs.declared.declaring.EnvError.TheVariants.{TableFull
 use Rattle.environments.specs.declared.declaring.EnvError.TheVariants.{OutOfMemory as EnvMemory}
 use Rattle.environments.specs.declared.given.Given.{Given}
 use Rattle.environments.specs.Environments.{Entry, entry_types, given_decl}
+use Rattle.environments.specs.OpenedTypes.{AddsAmong, OutgrowsAmong}
 use Rattle.type_terms.specs.declared.descriptors.Node.{Node}
-use Rattle.type_terms.specs.Trees.{Text, Tree, named, parameter, alias}
+use Rattle.type_terms.specs.Trees.{Tree, named, parameter, alias}
 use Rattle.type_terms.specs.TreeEquality.{same_name}
-use Rattle.type_terms.specs.Arenas.{Contents, AllBelow, Extends}
+use Rattle.type_terms.specs.Arenas.{Contents, AllBelow}
 use Rattle.type_terms.specs.Declarations.{Decl, decl_nodes, decl_of}
 use Rattle.type_terms.specs.Denotation.{tree}
 use Rattle.replacement.specs.declared.faults.SetFault.{SetFault}
 use Rattle.replacement.specs.declared.faults.SetFault.TheVariants.{Env, Nodes, OutOfMemory}
 use Rattle.replacement.specs.Expansion.{Entries, Applied, alias_use, defined_use, alias_right, defined_right, led}
 use Rattle.replacement.specs.Expansion.{expanded}
-use Rattle.replacement.specs.OpenedTypes.{AddsAmong, OutgrowsAmong}
-
--- what an environment means, where an arena has these nodes, and the names that it was asked for
-pub record World : Type 0 where
-  pub entries : Entries
-  pub names : List QName
-  pub packages : Text → Option Text
-  pub asked : Option (List QName)
-
-abbrev pub world : Entries → List QName → (Text → Option Text) → Option (List QName) → World
-world entries names packages asked = record { entries = entries; names = names; packages = packages; asked = asked }
-
--- Only such names came to those asked, and none was lost.
-abbrev pub AsksAmong : (QName → Type 0) → Option (List QName) → Option (List QName) → Type 0
-AsksAmong may (Some old) (Some new) = ((name : QName) → Contains new name → Contains old name ⊎ may name)
-    × ((name : QName) → Contains old name → Contains new name)
-AsksAmong may None None = Unit {0}
-AsksAmong may (Some old) None = ⊥
-AsksAmong may None (Some new) = ⊥
-
--- What a call keeps: all that an environment means, and each node of the arena. It asks for such names alone, and adds
--- what stands in such types alone.
-pub record Kept (may : QName → Type 0) (opens : Tree → Type 0) (old new : World) (before after : Contents) : Type 0
-  where
-    pub entries : new.entries ≡ old.entries
-    pub names : new.names ≡ old.names
-    pub packages : new.packages ≡ old.packages
-    pub asked : AsksAmong may old.asked new.asked
-    pub extends : Extends before after
-    pub adds : AddsAmong opens before after
 
 -- Why a call stopped that opens such types, where this is the arena at entry and the flag at exit. Want of memory alone
 -- is free; nodes are wanting only where the arena had no room for what the call opens.

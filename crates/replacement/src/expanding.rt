@@ -9,7 +9,8 @@ ghost use Rattle.type_terms.specs.DeclarationRules.{IsTypeParameter};
 ghost use Rattle.type_terms.specs.Denotation.{tree};
 ghost use Rattle.replacement.specs.Expansion.{Applied, known, alias_use, parameter_names, capped, put_each};
 ghost use Rattle.replacement.specs.Expansion.{alias_right, expanded};
-ghost use Rattle.replacement.specs.Calls.{world, Kept, Gives, GivesDecl, GivesSide, AddsSide, alias_name};
+ghost use Rattle.environments.specs.Kept.{world, Kept};
+ghost use Rattle.replacement.specs.Calls.{Gives, GivesDecl, GivesSide, AddsSide, alias_name};
 ghost use Rattle.replacement.specs.Calls.{parameter_name, applied, Meets, AsksAlias, OpensAlias, OpensSide, Leads};
 ghost use Rattle.replacement.specs.Calls.{AsksExpanding, OpensExpanding};
 

@@ -4,7 +4,8 @@ ghost use Rattle.std.specs.Prelude.{◌≡◌, ◌<◌, List, length, option_map
 ghost use Rattle.type_terms.specs.Arenas.{AllBelow};
 ghost use Rattle.type_terms.specs.Denotation.{tree};
 ghost use Rattle.replacement.specs.Expansion.{defined_use, defined_right, beneath, underlying};
-ghost use Rattle.replacement.specs.Calls.{world, Kept, Gives, defined_name, applied, OpensSide};
+ghost use Rattle.environments.specs.Kept.{world, Kept};
+ghost use Rattle.replacement.specs.Calls.{Gives, defined_name, applied, OpensSide};
 ghost use Rattle.replacement.specs.Calls.{AsksDefined, OpensDefined, AsksUnder, OpensUnder};
 
 use crate::expanding::{Head, expand, given_for, put_in, with_args, wrong_kind};

@@ -1,9 +1,9 @@
 use Rattle.std.proofs.Common.{◌≡◌, Some, ap, sym, ◌∙◌, subst}
-use Rattle.type_terms.specs.Additions.{Outgrows}
+use Rattle.go_values.specs.declared.qualified.QName.{QName}
 use Rattle.type_terms.specs.Denotation.{tree}
-use Rattle.basic_types.specs.BasicTypes.{head_name}
-use Rattle.basic_types.specs.Calls.{Meets}
-use Rattle.basic_types.proofs.KeptLemmas.{kept_more, holds_one}
+use Rattle.environments.specs.Kept.{OpensBehind}
+use Rattle.environments.specs.KeptLaws.{kept_more, outgrown_wider, behind_wider}
+use Rattle.basic_types.specs.Calls.{AsksHead, Meets}
 use Rattle.basic_types.proofs.SideLemmas.{met_again, turns_by}
 use Rattle.basic_types.proofs.following.follow.Goals as goal
 
@@ -21,10 +21,17 @@ returns-clause-turns g c =
 pub returns-clause-kept : goal.returns-clause-kept
 returns-clause-kept g c =
     let head = c.in-Ok.ensures ∙ c.in-Some.is in
-    kept_more (λ name. name ≡ c.in-Some.q) (λ name. head_name (tree c.args.arena.now.nodes c.args.node) ≡ Some name) _ _ _ _
-    (λ name is. head ∙ ap Some (sym is)) c.side_behind.ensures.kept
+    let entries = g.E.Env.entries c.args.env.now c.args.arena.now.nodes in
+    let start = tree c.args.arena.now.nodes c.args.node in
+    let at_head : (name : QName) → name ≡ c.in-Some.q → AsksHead start name = λ name is. head ∙ ap Some (sym is) in
+    kept_more (λ name. name ≡ c.in-Some.q) (AsksHead start) (OpensBehind entries (λ name. name ≡ c.in-Some.q)) (OpensBehind entries (AsksHead start)) _ _ _ _
+    at_head (behind_wider entries (λ name. name ≡ c.in-Some.q) (AsksHead start) at_head) c.side_behind.ensures.kept
 
 pub returns-clause-outgrown : goal.returns-clause-outgrown
 returns-clause-outgrown g c err =
     let head = c.in-Ok.ensures ∙ c.in-Some.is in
-    holds_one (g.E.Env.entries c.args.env.now c.args.arena.now.nodes) (λ name. head_name (tree c.args.arena.now.nodes c.args.node) ≡ Some name) (Outgrows c.args.arena.now) c.in-Some.q head (c.side_behind.ensures.outgrown err)
+    let entries = g.E.Env.entries c.args.env.now c.args.arena.now.nodes in
+    let start = tree c.args.arena.now.nodes c.args.node in
+    let at_head : (name : QName) → name ≡ c.in-Some.q → AsksHead start name = λ name is. head ∙ ap Some (sym is) in
+    outgrown_wider (OpensBehind entries (λ name. name ≡ c.in-Some.q)) (OpensBehind entries (AsksHead start)) c.args.arena.now
+    (behind_wider entries (λ name. name ≡ c.in-Some.q) (AsksHead start) at_head) (c.side_behind.ensures.outgrown err)

@@ -2,7 +2,7 @@ use Rattle.std.proofs.Common.{rules, ◌≡◌, None, Ok, refl, subst}
 use Rattle.std.proofs.lemmas.Result.{err_from_is_err_and}
 use Rattle.type_terms.specs.Denotation.{tree}
 use Rattle.replacement.specs.Calls.{Leads}
-use Rattle.replacement.proofs.KeptLemmas.{kept_again, kept_more}
+use Rattle.environments.specs.KeptLaws.{kept_again, kept_more}
 use Rattle.replacement.proofs.ExpandingLemmas.{are_names, turns, falls, head_asked, later_opened, led_on, stopped, ended}
 use Rattle.replacement.proofs.expanding.expand.Goals as goal
 

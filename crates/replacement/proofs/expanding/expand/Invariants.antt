@@ -1,6 +1,7 @@
 use Rattle.std.proofs.Common.{◌<◌, ◌-◌, length}
 use Rattle.type_terms.specs.Denotation.{tree}
-use Rattle.replacement.specs.Calls.{world, Kept, AsksExpanding, OpensExpanding}
+use Rattle.environments.specs.Kept.{world, Kept}
+use Rattle.replacement.specs.Calls.{AsksExpanding, OpensExpanding}
 use Rattle.replacement.proofs.ExpandingLemmas.{IsExpanding}
 use Rattle.replacement.proofs.expanding.expand.Given as goal
 

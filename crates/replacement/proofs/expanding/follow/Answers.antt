@@ -6,7 +6,7 @@ use Rattle.type_terms.specs.Denotation.{tree}
 use Rattle.type_terms.specs.TreeEquality.{same_name}
 use Rattle.replacement.specs.Expansion.{alias_use, alias_right}
 use Rattle.replacement.specs.Calls.{applied, OpensSide}
-use Rattle.replacement.proofs.KeptLemmas.{kept_more}
+use Rattle.environments.specs.KeptLaws.{kept_more}
 use Rattle.replacement.proofs.ExpandingLemmas.{led_stops}
 use Rattle.replacement.proofs.expanding.follow.Goals as goal
 

@@ -1,4 +1,4 @@
-use Rattle.replacement.proofs.KeptLemmas.{asks_one}
+use Rattle.environments.specs.KeptLaws.{asks_one}
 use Rattle.replacement.proofs.expanding.given_for.Goals as goal
 
 pub returns-in-Ok-clause-kept : goal.returns-in-Ok-clause-kept

@@ -1,4 +1,4 @@
-use Rattle.std.proofs.Common.{rules, ◌≡◌, [], ap, sym, ◌∙◌}
+use Rattle.std.proofs.Common.{rules, ◌≡◌, [], ap, ◌∙◌}
 use Rattle.std.specs.Prelude.{option_map}
 use Rattle.type_terms.specs.declared.descriptors.Node.TheVariants.{Instance}
 use Rattle.type_terms.specs.Denotation.{tree}

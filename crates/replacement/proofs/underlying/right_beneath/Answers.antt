@@ -3,7 +3,7 @@ use Rattle.std.specs.Prelude.{option_map, IsSomeAnd}
 use Rattle.type_terms.specs.Denotation.{tree}
 use Rattle.replacement.specs.Expansion.{defined_use, defined_right}
 use Rattle.replacement.specs.Calls.{applied, OpensSide}
-use Rattle.replacement.proofs.KeptLemmas.{kept_more}
+use Rattle.environments.specs.KeptLaws.{kept_more}
 use Rattle.replacement.proofs.UnderlyingLemmas.{beneath_gives}
 use Rattle.replacement.proofs.underlying.right_beneath.Goals as goal
 

@@ -11,7 +11,8 @@ use Rattle.type_terms.specs.Denotation.{tree}
 use Rattle.type_terms.specs.DeclarationRules.{IsTypeParameter}
 use Rattle.replacement.specs.Expansion.{then, put_each, defined_side}
 use Rattle.replacement.specs.Calls.{applied, GivesSide, AddsSide}
-use Rattle.replacement.proofs.KeptLemmas.{stops_more, kept_more, side_gives, side_kept}
+use Rattle.environments.specs.KeptLaws.{kept_more}
+use Rattle.replacement.proofs.KeptLemmas.{stops_more, side_gives, side_kept}
 use Rattle.replacement.proofs.ParameterLemmas.{defined_parameters, defined_below, side_is}
 use Rattle.replacement.proofs.underlying.right_of_defined.Goals as goal
 
