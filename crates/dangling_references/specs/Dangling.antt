@@ -1,10 +1,11 @@
 -- References that dangle, and the first of a declaration's.
 use Rattle.std.specs.Prelude.{◌≡◌, ◌≢◌, List, [], ◌∷◌, ◌++◌, Option, Some, None}
-use Rattle.std.specs.List.{flat_map, AllByRecursion}
+use Rattle.std.specs.List.{AllByRecursion, Contains}
 use Rattle.go_values.specs.declared.qualified.QName.{QName}
 use Rattle.type_terms.specs.Trees.{Tree}
 use Rattle.type_terms.specs.Declarations.{Decl}
-use Rattle.environments.specs.Environments.{Entry, declared, damaged, entry_types}
+use Rattle.environments.specs.Environments.{Entry, declared, damaged}
+use Rattle.environments.specs.Kept.{OpensBehind}
 use Rattle.environments.specs.References.{references, IsFirstMentions}
 use Rattle.environments.specs.Roles.{role_of}
 use Rattle.environments.specs.declared.mentions.Role.{Role}
@@ -45,6 +46,10 @@ pub record IsFirstOf (entries : Entries) (decl : Decl) (found : Option Reference
   pub mentions : IsFirstMentions [] (references decl) all
   pub is : IsFirstIfAny entries all found
 
+-- the name of one of some references
+abbrev pub IsNamed : List Reference → QName → Type 0
+IsNamed references q = (r : Reference) × Contains references r × (q ≡ r.name)
+
 -- the types that come with the declarations behind some references, or before their faults
-abbrev pub opened_types : Entries → List Reference → List Tree
-opened_types entries references = flat_map (λ r. entry_types (entries r.name)) references
+abbrev pub OpensNamed : Entries → List Reference → Tree → Type 0
+OpensNamed entries references type = OpensBehind entries (IsNamed references) type

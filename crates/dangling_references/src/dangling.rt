@@ -4,9 +4,11 @@ ghost use Rattle.std.specs.Prelude.{◌≡◌, ◌↔◌, Bool, true, Some, leng
 ghost use Rattle.type_terms.specs.Arenas.{AllBelow, Extends};
 ghost use Rattle.type_terms.specs.Additions.{AddsOnly, Outgrows};
 ghost use Rattle.type_terms.specs.Declarations.{decl_nodes, decl_of};
-ghost use Rattle.environments.specs.Environments.{entry_types};
+ghost use Rattle.environments.specs.Environments.{AsksOnly, entry_types};
+ghost use Rattle.environments.specs.Kept.{world, Kept};
+ghost use Rattle.environments.specs.OpenedTypes.{OutgrowsAmong};
 ghost use Rattle.environments.specs.References.{references};
-ghost use Rattle.dangling_references.specs.Dangling.{Dangles, IsFirstIfAny, IsFirstOf, opened_types};
+ghost use Rattle.dangling_references.specs.Dangling.{Dangles, IsFirstIfAny, IsFirstOf, IsNamed, OpensNamed};
 
 use crate::fault::AskFault;
 use environments::{Env, EnvError, Reference, meets_role, references};
@@ -15,8 +17,8 @@ use std::alloc::Global;
 use type_terms::{Arena, DeclNode};
 
 /// The first reference of a declaration, in the order of their first mention, behind whose name nothing stands, or a
-/// fault, or a declaration that may not be used in its role. It asks the environment for the names of references, and
-/// adds to the arena what these answers add.
+/// fault, or a declaration that may not be used in its role. It asks the environment for the names of references
+/// alone, and adds to the arena what these answers add.
 pub fn first_dangling<'a, E: Env<'a>>(
     alloc: Global,
     env: &mut E,
@@ -27,15 +29,13 @@ pub fn first_dangling<'a, E: Env<'a>>(
     requires there { AllBelow (length arena.old.nodes) (decl_nodes decl.now) }
     ensures first { IfOk result
         (IsFirstOf (E.entries env.old arena.old.nodes) (decl_of arena.old.nodes decl.now)) }
-    ensures entries { E.entries env.new arena.new.nodes ≡ E.entries env.old arena.old.nodes }
-    ensures names { E.names env.new ≡ E.names env.old }
-    ensures packages { E.packages env.new ≡ E.packages env.old }
-    ensures extends { Extends arena.old arena.new }
-    ensures adds { AddsOnly
-        (opened_types (E.entries env.old arena.old.nodes) (references (decl_of arena.old.nodes decl.now)))
+    ensures kept { Kept (IsNamed (references (decl_of arena.old.nodes decl.now)))
+        (OpensNamed (E.entries env.old arena.old.nodes) (references (decl_of arena.old.nodes decl.now)))
+        (world (E.entries env.old arena.old.nodes) (E.names env.old) (E.packages env.old) (E.asked env.old))
+        (world (E.entries env.new arena.new.nodes) (E.names env.new) (E.packages env.new) (E.asked env.new))
         arena.old arena.new }
-    ensures outgrown { IsErrOf result AskFault.Nodes → Outgrows arena.old
-        (opened_types (E.entries env.old arena.old.nodes) (references (decl_of arena.old.nodes decl.now))) }
+    ensures outgrown { IsErrOf result AskFault.Nodes → OutgrowsAmong
+        (OpensNamed (E.entries env.old arena.old.nodes) (references (decl_of arena.old.nodes decl.now))) arena.old }
     ensures full { IsErrOf result AskFault.TableFull → E.full env.new ≡ Some true }
     ensures stands_after { E.stands env.new arena.new.nodes }
 {
@@ -53,14 +53,12 @@ fn first_among<'a, E: Env<'a>>(
 ) -> Result<Option<Reference>, AskFault>
     requires stands { E.stands env.old arena.old.nodes }
     ensures first { IfOk result (IsFirstIfAny (E.entries env.old arena.old.nodes) mentions.now.keys) }
-    ensures entries { E.entries env.new arena.new.nodes ≡ E.entries env.old arena.old.nodes }
-    ensures names { E.names env.new ≡ E.names env.old }
-    ensures packages { E.packages env.new ≡ E.packages env.old }
-    ensures extends { Extends arena.old arena.new }
-    ensures adds { AddsOnly (opened_types (E.entries env.old arena.old.nodes) mentions.now.keys)
+    ensures kept { Kept (IsNamed mentions.now.keys) (OpensNamed (E.entries env.old arena.old.nodes) mentions.now.keys)
+        (world (E.entries env.old arena.old.nodes) (E.names env.old) (E.packages env.old) (E.asked env.old))
+        (world (E.entries env.new arena.new.nodes) (E.names env.new) (E.packages env.new) (E.asked env.new))
         arena.old arena.new }
     ensures outgrown { IsErrOf result AskFault.Nodes
-        → Outgrows arena.old (opened_types (E.entries env.old arena.old.nodes) mentions.now.keys) }
+        → OutgrowsAmong (OpensNamed (E.entries env.old arena.old.nodes) mentions.now.keys) arena.old }
     ensures full { IsErrOf result AskFault.TableFull → E.full env.new ≡ Some true }
     ensures stands_after { E.stands env.new arena.new.nodes }
 {
@@ -95,6 +93,7 @@ fn dangles<'a, E: Env<'a>>(
     ensures entries { E.entries env.new arena.new.nodes ≡ E.entries env.old arena.old.nodes }
     ensures names { E.names env.new ≡ E.names env.old }
     ensures packages { E.packages env.new ≡ E.packages env.old }
+    ensures asked { AsksOnly (E.asked env.old) reference.now.name (E.asked env.new) }
     ensures extends { Extends arena.old arena.new }
     ensures adds { AddsOnly (entry_types (E.entries env.old arena.old.nodes reference.now.name)) arena.old arena.new }
     ensures outgrown { IsErrOf result AskFault.Nodes
