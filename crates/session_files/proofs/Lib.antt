@@ -8,3 +8,6 @@ mod OpenLemmas
 mod LoadingLemmas
 mod Ways
 mod PackageLemmas
+mod KeyLemmas
+mod KeyListLemmas
+mod IndexLemmas

@@ -3,4 +3,5 @@ pub mod Sessions
 pub mod Names
 pub mod Answers
 pub mod Loading
+pub mod Index
 pub mod OpenSessions

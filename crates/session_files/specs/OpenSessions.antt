@@ -1,10 +1,14 @@
 -- A session as it is kept.
-use Rattle.std.specs.Prelude.{◌≡◌, ℕ, ◌<◌, ◌≤◌, List, length, map, Some}
+use Rattle.std.specs.Prelude.{◌≡◌, ℕ, ◌<◌, ◌≤◌, List, length, map, Option, Some}
+use Rattle.std.specs.Option.{option_map}
 use Rattle.std.specs.String.{string_bytes}
 use Rattle.session_files.specs.Sessions.{Opened, AreSound, StandsIn}
 use Rattle.session_files.specs.Names.{stands_at}
+use Rattle.go_values.specs.declared.qualified.QName.{QName}
+use Rattle.session_files.specs.Index.{Spot, IsIndex, Key}
 use Rattle.session_files.specs.declared.files.SessionFile.{SessionFile}
 use Rattle.session_files.specs.declared.files.Place.{Place}
+use Rattle.session_files.specs.declared.index.NameKey.{NameKey}
 use Rattle.session_files.specs.declared.limits.TheConstants.{MOST_FILES}
 
 abbrev pub opened_of : SessionFile → Opened
@@ -13,10 +17,11 @@ opened_of f = record { label = string_bytes f.label; file = f.image }
 abbrev pub all_opened : List SessionFile → List Opened
 all_opened files = map opened_of files
 
--- they are files of bytes, and no more than a session may have
-pub record IsSession (files : List Opened) : Type 0 where
+-- they are files of bytes, no more than a session may have, with an index over their names
+pub record IsSession (files : List Opened) (index : List Spot) : Type 0 where
   pub sound : AreSound files
   pub few : length files ≤ MOST_FILES
+  pub indexed : IsIndex files index
 
 -- where the first declaration of a name stands
 pub record IsPlace (files : List Opened) (path name : List ℕ) (place : Place) : Type 0 where
@@ -25,3 +30,15 @@ pub record IsPlace (files : List Opened) (path name : List ℕ) (place : Place) 
   pub its_file : opened.file ≡ place.image.now
   pub at : stands_at files path name ≡ Some (place.image.now, place.offset)
   pub inside : place.offset < place.image.now.body.len
+
+-- ---- the index, as it is made
+
+abbrev pub key_of : NameKey → Key
+key_of key = record {
+  qname = record { path = key.path.now; name = key.name.now };
+  file = key.file;
+  number = key.number;
+}
+
+abbrev pub last_name : Option NameKey → Option QName
+last_name last = option_map (λ key. (key_of key).qname) last

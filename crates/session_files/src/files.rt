@@ -1,11 +1,12 @@
 //! The open files of a session.
 
-ghost use Rattle.std.specs.Prelude.{◌≡◌, ◌<◌, ◌≤◌, ℕ, length, IfSome, IfNone};
-ghost use Rattle.name_index.specs.Lookup.{IsListed};
+ghost use Rattle.std.specs.Prelude.{◌≡◌, ◌≤◌, length, IfSome, IfNone};
 ghost use Rattle.session_files.specs.Sessions.{AreSound, IsUnknown, all_listed};
+ghost use Rattle.session_files.specs.Index.{IsIndex};
 ghost use Rattle.session_files.specs.OpenSessions.{all_opened, IsPlace};
 ghost use Rattle.session_files.specs.declared.limits.TheConstants.{MOST_FILES};
 
+use crate::index::find_in;
 use name_index::Image;
 
 /// An open file, and the text by which messages name it.
@@ -26,40 +27,28 @@ pub struct Place<'a> {
 }
 
 /// Where the first file that lists the name has it.
-pub fn place_in<'a>(files: &'a [SessionFile], path: &[u8], name: &[u8]) -> Option<Place<'a>>
-    requires few { length files.now ≤ MOST_FILES }
+pub fn place_in<'a>(
+    files: &'a [SessionFile],
+    index: &[(u32, u32)],
+    path: &[u8],
+    name: &[u8],
+) -> Option<Place<'a>>
     requires sound { AreSound (all_opened files.now) }
+    requires indexed { IsIndex (all_opened files.now) index.now }
     ensures found { IfSome result (IsPlace (all_opened files.now) path.now name.now) }
     ensures none { IfNone result (IsUnknown (all_opened files.now) path.now name.now) }
 {
-    for (file, opened) in files.iter().enumerate() {
-        match listed_in(&opened.image, path, name) {
-            Some((number, offset)) => {
-                return Some(Place {
-                    file: file as u32,
-                    number,
-                    image: &opened.image,
-                    offset,
-                });
-            }
-            None => {}
-        }
-    }
-    None
-}
-
-/// The number of a name in a file's index, and where its declaration stands.
-fn listed_in(image: &Image, path: &[u8], name: &[u8]) -> Option<(u32, u64)>
-    ensures found { IfSome result (λ at. IsListed image.now.packages at.0 path.now name.now at.1) }
-    ensures inside { IfSome result (λ at. at.1 < image.now.body.len) }
-    ensures none { IfNone result
-        ((number offset : ℕ) → IsListed image.now.packages number path.now name.now offset → ⊥) }
-{
-    let number = image.entry_of(path, name)?;
+    let (file, number) = find_in(files, index, path, name)?;
+    let image = &files[file as usize].image;
     let Some((_, _, offset)) = image.entry(number) else {
         unreachable!();
     };
-    Some((number, offset))
+    Some(Place {
+        file,
+        number,
+        image,
+        offset,
+    })
 }
 
 /// How many names the files list together.

@@ -2,6 +2,7 @@
 #![tactic(auto)]
 
 mod files;
+mod index;
 mod laws;
 mod limits;
 mod loading;

@@ -1,12 +1,13 @@
 //! Sessions of files.
 
 ghost use Rattle.std.specs.Prelude.{◌≡◌, ◌≤◌, length, map, option_map, slice_get, IfOk, IfErr, IfSome, IfNone};
-ghost use Rattle.session_files.specs.Sessions.{AreSound, IsUnknown, Stands, all_listed};
+ghost use Rattle.session_files.specs.Sessions.{AreSound, IsUnknown, Stands, all_listed, IsNameCount};
 ghost use Rattle.session_files.specs.OpenSessions.{IsPlace};
 ghost use Rattle.session_files.specs.Answers.{packages};
 ghost use Rattle.session_files.specs.Loading.{word_of, AreTaken, IsRefused, IsCause};
 
 use crate::files::{Place, SessionFile, count_listed, place_in};
+use crate::index::index_of;
 use crate::loading::{LoadError, take_all_in};
 use crate::packages::package_in;
 use crate::sources::Source;
@@ -19,6 +20,7 @@ use std::marker::Model;
 #[derive(Debug, Drop)]
 pub struct Session {
     files: Vec<SessionFile>,
+    index: Vec<(u32, u32)>,
 }
 
 impl Model for Session {
@@ -30,7 +32,7 @@ impl Model for Session {
 
     ghost view = { λ s. all_opened s.files.items };
 
-    ghost invariant = { λ s. IsSession (all_opened s.files.items) };
+    ghost invariant = { λ s. IsSession (all_opened s.files.items) s.index.items };
 }
 
 impl Session {
@@ -52,7 +54,8 @@ impl Session {
     {
         let files = take_all_in(alloc, device, sources)?;
         // What shallow files list and no file covers will be fetched here.
-        Ok(Session { files })
+        let index = index_of(alloc, &files)?;
+        Ok(Session { files, index })
     }
 
     /// What every session keeps: each file has an envelope.
@@ -90,6 +93,13 @@ impl Session {
         count_listed(&self.files)
     }
 
+    /// How many distinct names its files list.
+    pub fn names(&self) -> u64
+        ensures { IsNameCount self.now result }
+    {
+        self.index.len() as u64
+    }
+
     /// The number of the first file that lists the name, and the name's number in its index.
     pub fn find(&self, path: &[u8], name: &[u8]) -> Option<(u32, u32)>
         ensures found { IfSome result (λ at. Stands self.now path.now name.now at.0 at.1) }
@@ -104,7 +114,7 @@ impl Session {
         ensures found { IfSome result (IsPlace self.now path.now name.now) }
         ensures none { IfNone result (IsUnknown self.now path.now name.now) }
     {
-        place_in(&self.files, path, name)
+        place_in(&self.files, &self.index, path, name)
     }
 
     /// The name of the package with the path, by the first file whose index lists it.
