@@ -44,7 +44,7 @@ leads_again files sound path name lead leads =
 
 -- ---- what is found is come down to
 
-found_within : (files : List Opened) → AreSound files → (n : ℕ) (path name : List ℕ) (basic : Basic) → comes_down_within files n path name ≡ Some basic → ComesDownTo files basic path name
+pub found_within : (files : List Opened) → AreSound files → (n : ℕ) (path name : List ℕ) (basic : Basic) → comes_down_within files n path name ≡ Some basic → ComesDownTo files basic path name
 found_within files sound zero path name basic e = absurd cc
 found_within files sound (suc n) path name basic e = go (lead_of files path name) refl e (found_within files sound n)
   where
@@ -57,7 +57,7 @@ found_within files sound (suc n) path name basic e = go (lead_of files path name
 -- ---- what is come down to is found
 
 -- with more heads it is found as well
-more_heads : (files : List Opened) (n m : ℕ) (path name : List ℕ) (basic : Basic) → n ≤ m → comes_down_within files n path name ≡ Some basic → comes_down_within files m path name ≡ Some basic
+pub more_heads : (files : List Opened) (n m : ℕ) (path name : List ℕ) (basic : Basic) → n ≤ m → comes_down_within files n path name ≡ Some basic → comes_down_within files m path name ≡ Some basic
 more_heads files zero m path name basic le e = absurd cc
 more_heads files (suc n) zero path name basic le e = absurd (omega arith)
 more_heads files (suc n) (suc m) path name basic le e = go (lead_of files path name) e (more_heads files n m)

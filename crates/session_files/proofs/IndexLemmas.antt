@@ -36,12 +36,12 @@ has xs x c = (c.0, slice_get_read xs (length xs) c.0 x refl c.1 (sym c.2))
 has_map : {X Y : Type 0} (f : X → Y) (xs : List X) (x : X) → Has xs x → Has (map f xs) (f x)
 has_map f xs x there = (there.0, slice_get-map f xs there.0 ∙ ap (option_map f) there.1)
 
-record Mapped {X Y : Type 0} (f : X → Y) (xs : List X) (y : Y) (i : ℕ) : Type 0 where
+pub record Mapped {X Y : Type 0} (f : X → Y) (xs : List X) (y : Y) (i : ℕ) : Type 0 where
   pub x : X
   pub at : slice_get xs i ≡ Some x
   pub is : f x ≡ y
 
-mapped : {X Y : Type 0} (f : X → Y) (xs : List X) (y : Y) (i : ℕ) → slice_get (map f xs) i ≡ Some y → Mapped f xs y i
+pub mapped : {X Y : Type 0} (f : X → Y) (xs : List X) (y : Y) (i : ℕ) → slice_get (map f xs) i ≡ Some y → Mapped f xs y i
 mapped f [] y i at = absurd cc
 mapped f (x ∷ xs) y zero at = record { x = x; at = refl; is = cc }
 mapped f (x ∷ xs) y (suc i) at = let m = mapped f xs y i at in record { x = m.x; at = m.at; is = m.is }
@@ -220,11 +220,24 @@ module _ (files : List Opened) (index : List Spot) (is : IsIndex files index) (p
       let below : name_cmp here after ≡ Less = rise_at (map (qname_at files) index) k (k + 1) here after is.rise (omega arith) (name_there k d (omega arith)) (name_there (k + 1) d next) in
       ap is_lt (by_name.antisymm after here ∙ ap ordering_reverse below)
 
-  pub found_stands : (i : ℕ) (at : Spot) → IsSearchInRange (Ok i) (length index) → IsBinarySearchResult beside index (Ok i) → slice_get index i ≡ Some at → Stands files path name at.0 at.1
-  found_stands i at bound equal there =
-      let read = get_or_from_slice_get index i at at there in
-      let same : qname_at files at ≡ as_qname path name = one_name (qname_at files at) (as_qname path name) (ap beside (sym read) ∙ equal at) in
+  pub found_there : (i : ℕ) → IsSearchInRange (Ok i) (length index) → IsBinarySearchResult beside index (Ok i) → slice_get (map (qname_at files) index) i ≡ Some (as_qname path name)
+  found_there i bound equal =
+      let at = some_thing index i bound in
+      name_there i at bound ∙ ap (λ (q : QName). Some q) (one_name (qname_at files (get_or index i at)) (as_qname path name) (equal at))
+    where
+      some_thing : {X : Type 0} (ys : List X) (i : ℕ) → i < length ys → X
+      some_thing [] i lt = absurd (omega arith)
+      some_thing (y ∷ ys) i lt = y
+
+  pub found_stands : (i : ℕ) (d : Spot) → i < length index → slice_get (map (qname_at files) index) i ≡ Some (as_qname path name) → Stands files path name (get_or index i d).0 (get_or index i d).1
+  found_stands i d within found =
+      let at = get_or index i d in
+      let there = slice_get-get_or index i d within in
+      let same : qname_at files at ≡ as_qname path name = some_name (sym (name_there i d within) ∙ found) in
       subst (λ (q : QName). Stands files q.path q.name at.0 at.1) same (one_of (λ at. Stands files (qname_at files at).path (qname_at files at).name at.0 at.1) index i at is.first there)
+    where
+      some_name : {a b : QName} → Some a ≡ Some b → a ≡ b
+      some_name e = cc
 
   pub none_stands : (place : ℕ) → IsBinarySearchResult beside index (Err place) → IsUnknown files path name
   none_stands place parted file number offset o there is_listed =

@@ -6,8 +6,8 @@ mod ComingDown
 pub mod Outcomes
 mod OpenLemmas
 mod LoadingLemmas
-mod Ways
 mod PackageLemmas
 mod KeyLemmas
 mod KeyListLemmas
 mod IndexLemmas
+mod WayLemmas

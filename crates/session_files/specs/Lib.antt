@@ -4,4 +4,5 @@ pub mod Names
 pub mod Answers
 pub mod Loading
 pub mod Index
+pub mod Ways
 pub mod OpenSessions

@@ -1,6 +1,6 @@
 //! The open files of a session.
 
-ghost use Rattle.std.specs.Prelude.{◌≡◌, ◌≤◌, length, IfSome, IfNone};
+ghost use Rattle.std.specs.Prelude.{◌≡◌, ◌<◌, ◌≤◌, ◌^◌, length, IfSome, IfNone};
 ghost use Rattle.session_files.specs.Sessions.{AreSound, IsUnknown, all_listed};
 ghost use Rattle.session_files.specs.Index.{IsIndex};
 ghost use Rattle.session_files.specs.OpenSessions.{all_opened, IsPlace};
@@ -54,7 +54,8 @@ pub fn place_in<'a>(
 /// How many names the files list together.
 pub fn count_listed(files: &[SessionFile]) -> u64
     requires few { length files.now ≤ MOST_FILES }
-    ensures { result ≡ length (all_listed (all_opened files.now)) }
+    ensures count { result ≡ length (all_listed (all_opened files.now)) }
+    ensures bound { result < 2 ^ 62 }
 {
     let mut count = 0;
     for opened in files {

@@ -1,6 +1,7 @@
 //! An index over the names of all files.
 
-ghost use Rattle.std.specs.Prelude.{◌≡◌, ◌++◌, ◌≤◌, length, map, option_map, None, IfOk, IfSome, IfNone};
+ghost use Rattle.std.specs.Prelude.{◌≡◌, ◌++◌, ◌<◌, ◌≤◌, length, map, option_map, slice_get};
+ghost use Rattle.std.specs.Prelude.{Some, None, IfOk, IfSome, IfNone};
 ghost use Rattle.name_index.specs.FullFile.{listed};
 ghost use Rattle.session_files.specs.OpenSessions.{all_opened, key_of, last_name};
 ghost use Rattle.session_files.specs.Sessions.{IsUnknown, Stands, qualified};
@@ -98,6 +99,23 @@ pub fn find_in(
     ensures found { IfSome result (λ at. Stands (all_opened files.now) path.now name.now at.0 at.1) }
     ensures none { IfNone result (IsUnknown (all_opened files.now) path.now name.now) }
 {
+    let place = position_in(files, index, path, name)?;
+    Some(index[place])
+}
+
+/// Where in the index the name stands.
+pub fn position_in(
+    files: &[SessionFile],
+    index: &[(u32, u32)],
+    path: &[u8],
+    name: &[u8],
+) -> Option<usize>
+    requires { IsIndex (all_opened files.now) index.now }
+    ensures inside { IfSome result (λ place. place < length index.now) }
+    ensures found { IfSome result (λ place.
+        slice_get (map (qname_at (all_opened files.now)) index.now) place ≡ Some (as_qname path.now name.now)) }
+    ensures none { IfNone result (IsUnknown (all_opened files.now) path.now name.now) }
+{
     let found = index.binary_search_by(
         |at: &(u32, u32)| -> Ordering
             ensures { result
@@ -105,7 +123,7 @@ pub fn find_in(
         { compare_at(files, *at, path, name) },
     );
     match found {
-        Ok(place) => Some(index[place]),
+        Ok(place) => Some(place),
         Err(_) => None,
     }
 }
@@ -114,11 +132,17 @@ pub fn find_in(
 fn compare_at(files: &[SessionFile], at: (u32, u32), path: &[u8], name: &[u8]) -> Ordering
     ensures { result ≡ name_cmp (qname_at (all_opened files.now) at) (as_qname path.now name.now) }
 {
-    let (listed_path, listed_name) = listed_at(files, at).unwrap_or((&[], &[]));
+    let (listed_path, listed_name) = name_at(files, at);
     listed_path.cmp(path).then(listed_name.cmp(name))
 }
 
-/// The name that is listed there.
+/// The path and the name that are listed there, empty ones where none are.
+pub fn name_at(files: &[SessionFile], at: (u32, u32)) -> (&[u8], &[u8])
+    ensures { as_qname result.0.now result.1.now ≡ qname_at (all_opened files.now) at }
+{
+    listed_at(files, at).unwrap_or((&[], &[]))
+}
+
 fn listed_at(files: &[SessionFile], at: (u32, u32)) -> Option<(&[u8], &[u8])>
     ensures { option_map (λ x. as_qname x.0.now x.1.now) result
         ≡ option_map qualified (listed_at (all_opened files.now) at) }

@@ -1,6 +1,7 @@
 //! Sessions of files: what their names are, and what comes of taking files in.
 #![tactic(auto)]
 
+mod basics;
 mod files;
 mod index;
 mod laws;

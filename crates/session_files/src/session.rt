@@ -2,15 +2,20 @@
 
 ghost use Rattle.std.specs.Prelude.{◌≡◌, ◌≤◌, length, map, option_map, slice_get, IfOk, IfErr, IfSome, IfNone};
 ghost use Rattle.session_files.specs.Sessions.{AreSound, IsUnknown, Stands, all_listed, IsNameCount};
-ghost use Rattle.session_files.specs.OpenSessions.{IsPlace};
+ghost use Rattle.session_files.specs.OpenSessions.{all_opened, IsPlace};
+ghost use Rattle.session_files.specs.Names.{comes_down};
+ghost use Rattle.session_files.specs.declared.limits.TheConstants.{MOST_FILES};
+ghost use Rattle.session_files.specs.declared.loading.LoadError.TheVariants.{OutOfMemory};
 ghost use Rattle.session_files.specs.Answers.{packages};
 ghost use Rattle.session_files.specs.Loading.{word_of, AreTaken, IsRefused, IsCause};
 
+use crate::basics::{all_basics, basic_in};
 use crate::files::{Place, SessionFile, count_listed, place_in};
 use crate::index::index_of;
 use crate::loading::{LoadError, take_all_in};
 use crate::packages::package_in;
 use crate::sources::Source;
+use code_tables::Basic;
 use name_index::Image;
 use outside::Files;
 use std::alloc::Global;
@@ -21,6 +26,7 @@ use std::marker::Model;
 pub struct Session {
     files: Vec<SessionFile>,
     index: Vec<(u32, u32)>,
+    basics: Vec<Option<Basic>>,
 }
 
 impl Model for Session {
@@ -32,7 +38,7 @@ impl Model for Session {
 
     ghost view = { λ s. all_opened s.files.items };
 
-    ghost invariant = { λ s. IsSession (all_opened s.files.items) s.index.items };
+    ghost invariant = { λ s. IsSession (all_opened s.files.items) s.index.items s.basics.items };
 }
 
 impl Session {
@@ -54,8 +60,14 @@ impl Session {
     {
         let files = take_all_in(alloc, device, sources)?;
         // What shallow files list and no file covers will be fetched here.
-        let index = index_of(alloc, &files)?;
-        Ok(Session { files, index })
+        complete(alloc, files)
+    }
+
+    /// What a name comes down to, as it was found when the session was loaded.
+    pub(crate) fn known_basic(&self, path: &[u8], name: &[u8]) -> Option<Basic>
+        ensures { result ≡ comes_down self.now path.now name.now }
+    {
+        basic_in(&self.files, &self.index, &self.basics, path, name)
     }
 
     /// What every session keeps: each file has an envelope.
@@ -123,4 +135,20 @@ impl Session {
     {
         package_in(&self.files, path)
     }
+}
+
+/// The session of these files: their names are sorted, and what each comes down to is found.
+fn complete(alloc: Global, files: Vec<SessionFile>) -> Result<Session, LoadError>
+    requires sound { AreSound (all_opened files.items) }
+    requires few { length files.items ≤ MOST_FILES }
+    ensures files { IfOk result (λ session. session ≡ all_opened files.items) }
+    ensures cause { IfErr result (λ error. error ≡ OutOfMemory) }
+{
+    let index = index_of(alloc, &files)?;
+    let basics = all_basics(alloc, &files, &index)?;
+    Ok(Session {
+        files,
+        index,
+        basics,
+    })
 }

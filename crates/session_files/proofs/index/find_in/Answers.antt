@@ -1,23 +1,6 @@
-use Rattle.std.proofs.lemmas.Fn.{always_returns_same}
-use Rattle.std.proofs.lemmas.Option.{slice_get-get_or}
 use Rattle.session_files.specs.OpenSessions.{all_opened}
-use Rattle.session_files.proofs.IndexLemmas.{beside, found_stands, none_stands}
+use Rattle.session_files.proofs.IndexLemmas.{found_stands}
 use Rattle.session_files.proofs.index.find_in.Goals as goal
 
-pub returns-in-Ok-clause-found : goal.returns-in-Ok-clause-found
-returns-in-Ok-clause-found c =
-    let files = all_opened c.args.files.now in
-    let index = c.args.index.now in
-    let path = c.args.path.now in
-    let name = c.args.name.now in
-    let position = c.in-Ok.ensures.position (beside files index c.requires path name) (always_returns_same _ _ _ (λ a r f k. (k.met.1, λ j. (k.met.0.0 j, k.met.0.1 j, k.met.0.2 j)))) in
-    found_stands files index c.requires path name c.in-Ok.place _ c.in-Ok.ensures.bound position (slice_get-get_or index c.in-Ok.place _ c.in-Ok.ensures.bound)
-
-pub returns-in-Err-clause-none : goal.returns-in-Err-clause-none
-returns-in-Err-clause-none c =
-    let files = all_opened c.args.files.now in
-    let index = c.args.index.now in
-    let path = c.args.path.now in
-    let name = c.args.name.now in
-    none_stands files index c.requires path name c.in-Err.field-0
-    (c.in-Err.ensures.position (beside files index c.requires path name) (always_returns_same _ _ _ (λ a r f k. (k.met.1, λ j. (k.met.0.0 j, k.met.0.1 j, k.met.0.2 j)))))
+pub returns-clause-found : goal.returns-clause-found
+returns-clause-found c = found_stands (all_opened c.args.files.now) c.args.index.now c.requires c.args.path.now c.args.name.now c.in_ok-place.place _ c.in_ok-place.ensures.inside c.in_ok-place.ensures.found

@@ -3,13 +3,14 @@ use Rattle.std.specs.Option.{option_and_then}
 use Rattle.decl_spelling.specs.Heads.{head_lead}
 use Rattle.decl_reader.specs.Leads.{lead}
 use Rattle.session_files.specs.Names.{lead_at}
+use Rattle.session_files.specs.OpenSessions.{all_opened}
 use Rattle.session_files.proofs.OpenFiles.{source_is}
 use Rattle.session_files.proofs.Standing.{not_stood}
-use Rattle.session_files.proofs.session.Session.lead_of.Goals as goal
+use Rattle.session_files.proofs.basics.lead_in.Goals as goal
 
 pub returns-in_err-place : goal.returns-in_err-place
 returns-in_err-place c =
-    ap (option_map lead) c.from_residual.ensures ∙ ap (option_and_then lead_at) (sym (not_stood c.args.self.now c.args.path.now c.args.name.now c.in_err-place.ensures.none))
+    ap (option_map lead) c.from_residual.ensures ∙ ap (option_and_then lead_at) (sym (not_stood (all_opened c.args.files.now) c.args.path.now c.args.name.now c.in_err-place.ensures.none))
 
 pub returns : goal.returns
 returns c =
