@@ -1,8 +1,8 @@
 -- What is written of a declaration that keeps the rules keeps them, and fits.
-use Rattle.std.proofs.Common.{◌≡◌, ℕ, ◌^◌, ◌<◌, Bool, List, [], ◌∷◌, ◌++◌, length, map, refl, sym, ap, subst, ◌∙◌, arith}
+use Rattle.std.proofs.Common.{◌≡◌, ℕ, ◌<◌, Bool, List, [], ◌∷◌, ◌++◌, map, refl, sym, ap, subst, arith}
 use Rattle.std.specs.List.{All, AllByRecursion, flat_map}
 use Rattle.std.proofs.lemmas.List.{length-map}
-use Rattle.std.proofs.lemmas.List.Sorted.{All-permutation, length_permutation}
+use Rattle.std.proofs.lemmas.List.Sorted.{All-permutation}
 use Rattle.std.proofs.lemmas.List.Elements.{All-from_recursion, recursion_from_All, All-map, All-weaker}
 use Rattle.go_values.specs.declared.positions.Pos.{Pos}
 use Rattle.position_codec.specs.Place.{place_of, pos_of}
@@ -48,7 +48,7 @@ module _ {X : Type 0} (items : X → List Item) (g : X → X) (each : (x : X) �
   fit_each (x ∷ xs) all = (each x all.0, fit_each xs all.1)
 
   pub fit_list : (xs : List X) → Small (list_items items xs) → Fit (list_items items (map g xs))
-  fit_list xs small = (subst (λ (n : ℕ). n < 2 ^ 64) (sym (length-map xs g)) small.0, fit_flat items (map g xs) (fit_each xs (small_each items xs small.1)))
+  fit_list xs small = (tt, fit_flat items (map g xs) (fit_each xs (small_each items xs small.1)))
 
 pub param_fits : (x : ParamOf Pos Text Tree) → Small (param_items x) → Fit (param_items (param_written x))
 param_fits x small = (position_fits x.pos small.0, (tt, (tt, tt)))
@@ -89,25 +89,24 @@ methods_fit xs small =
     let made = map method_written xs in
     let each = fit_each method_items method_written method_fits xs (small_each method_items xs small.1) in
     let sorted = All-permutation (λ m. Fit (method_items m)) made (by_name made) (all_methods made) (All-from_recursion (λ m. Fit (method_items m)) made each) in
-    let size : length (by_name made) ≡ length xs = length_permutation made (by_name made) (all_methods made) ∙ length-map xs method_written in
-    (subst (λ (n : ℕ). n < 2 ^ 64) (sym size) small.0, fit_flat method_items (by_name made) (recursion_from_All (λ m. Fit (method_items m)) (by_name made) sorted))
+    (tt, fit_flat method_items (by_name made) (recursion_from_All (λ m. Fit (method_items m)) (by_name made) sorted))
 
 items_fit : (level : Level) → Small (level_items level) → Fit (level_items (level_written level))
 items_fit (predeclared_of basic) small = tt
-items_fit (named_of name path) small = (small.0, (tt, (tt, tt)))
-items_fit (parameter_of name path) small = (small.0, (tt, (tt, tt)))
-items_fit (alias_of name path) small = (small.0, (tt, (tt, tt)))
-items_fit (pointer_of type) small = (small.0, (tt, tt))
-items_fit (slice_of type) small = (small.0, (tt, tt))
-items_fit (array_of size type) small = (small.0, (small.1.0, (tt, tt)))
-items_fit (chan_of dir type) small = (small.0, (small.1.0, (tt, tt)))
-items_fit (map_of key type) small = (small.0, (tt, (tt, tt)))
-items_fit (func_of home sig) small = (small.0, (tt, sig_fits sig small.1.1))
-items_fit (struct_of home fields) small = (small.0, (tt, fit_list field_items field_written field_fits fields small.1.1))
+items_fit (named_of name path) small = (tt, (tt, (tt, tt)))
+items_fit (parameter_of name path) small = (tt, (tt, (tt, tt)))
+items_fit (alias_of name path) small = (tt, (tt, (tt, tt)))
+items_fit (pointer_of type) small = (tt, (tt, tt))
+items_fit (slice_of type) small = (tt, (tt, tt))
+items_fit (array_of size type) small = (tt, (tt, (tt, tt)))
+items_fit (chan_of dir type) small = (tt, (tt, (tt, tt)))
+items_fit (map_of key type) small = (tt, (tt, (tt, tt)))
+items_fit (func_of home sig) small = (tt, (tt, sig_fits sig small.1.1))
+items_fit (struct_of home fields) small = (tt, (tt, fit_list field_items field_written field_fits fields small.1.1))
 items_fit (interface_of home embedded methods) small =
     let first = all_left IsSmall (list_items embedded_items embedded) (list_items method_items methods) small.1.1 in
     let rest = all_right IsSmall (list_items embedded_items embedded) (list_items method_items methods) small.1.1 in (
-      small.0,
+      tt,
       (
         tt,
         all_append ItemFits (list_items embedded_items (map element_written embedded)) (list_items method_items (by_name (map method_written methods)))
@@ -116,8 +115,8 @@ items_fit (interface_of home embedded methods) small =
     )
 items_fit (instance_of base args) small =
     let first = all_left IsSmall (list_items type_items args) (a_type base ∷ []) small.1.1 in
-    (small.0, ((refl, (omega arith, omega arith)), all_append ItemFits (list_items type_items (map written_full args)) (a_type base ∷ []) (fit_list type_items written_full type_fits args first) (tt, tt)))
-items_fit (union_of parts) small = (small.0, fit_list term_items term_written term_fits parts small.1)
+    (tt, ((refl, (omega arith, omega arith)), all_append ItemFits (list_items type_items (map written_full args)) (a_type base ∷ []) (fit_list type_items written_full type_fits args first) (tt, tt)))
+items_fit (union_of parts) small = (tt, fit_list term_items term_written term_fits parts small.1)
 
 -- ---- the rules
 

@@ -1,5 +1,5 @@
 -- What is written of a declaration that keeps the rules fits.
-use Rattle.std.proofs.Common.{◌≡◌, ℕ, ◌*◌, ◌^◌, ◌<◌, Bool, true, false, List, [], ◌∷◌, map, Some, refl, sym, ap, subst, ◌∙◌, arith, ◌⊎◌, inl, inr}
+use Rattle.std.proofs.Common.{◌≡◌, ℕ, Bool, true, false, List, [], ◌∷◌, map, Some, refl, sym, ap, subst, ◌∙◌, ◌⊎◌, inl, inr}
 use Rattle.std.specs.List.{All, AllByRecursion}
 use Rattle.std.proofs.lemmas.List.Elements.{recursion_from_All, All-map, All-weaker}
 use Rattle.go_values.specs.declared.positions.Pos.{Pos}
@@ -13,7 +13,7 @@ use Rattle.type_terms.specs.Replaced.{all_left, all_right, all_append}
 use Rattle.type_terms.specs.Declarations.{ReceiverOf, var_of, function_of, constant_of, defined_of, renamed_of, type_parameter_of, form_types, Decl}
 use Rattle.type_terms.specs.DeclarationRules.{HasLast, IsProper, IsTypeParameter, IsInterface, IsUnderlying, MayHaveMethods, IsProperForm}
 use Rattle.decl_spelling.specs.Sections.{Basics}
-use Rattle.decl_spelling.specs.Constants.{Spelling, flag, offset, number, Kind, spelled, kind_of, kind_number, basic_type}
+use Rattle.decl_spelling.specs.Constants.{Spelling, flag, offset, number, Kind, spelled, kind_of, basic_type}
 use Rattle.decl_spelling.specs.Declarations.{has_methods}
 use Rattle.file_layout.specs.Items.{a_type, type_items, param_items, sig_items, generic_items, receiver_items, methods_items, constant_kind, spelled_items, value_items, decl_items}
 use Rattle.file_layout.specs.Conditions.{ItemFits, TypeFits, IsValueFor, ConstantFits, DeclFits}
@@ -83,16 +83,11 @@ spelled_fit basic (number signed max) (whole x) is fits = ((subst IsGreatestLeng
 spelled_fit basic (number signed max) (truth x) is fits = elim fits [ ]
 spelled_fit basic (number signed max) (chars x) is fits = elim fits [ ]
 
-kind_small : (spelling : Spelling) → 2 * kind_number spelling < 2 ^ 64
-kind_small flag = omega arith
-kind_small offset = omega arith
-kind_small (number signed max) = omega arith
-
 value_fits : (basics : Basics) (type : Tree) (value : Const) (basic : Basic) (spelling : Spelling) → basic_type basics type ≡ Some basic → kind_of basic ≡ spelled spelling → IsValueFor spelling value
     → Fit (value_items (constant_kind (basic_type basics (written full type))) value)
 value_fits basics type value basic spelling its is fits =
     let kind : constant_kind (basic_type basics (written full type)) ≡ spelled spelling = ap constant_kind (basic_kept basics type ∙ its) ∙ is in
-    subst (λ (k : Kind). Fit (value_items k value)) (sym kind) (kind_small spelling, spelled_fit basic spelling value is fits)
+    subst (λ (k : Kind). Fit (value_items k value)) (sym kind) (tt, spelled_fit basic spelling value is fits)
 
 constant_kept : (basics : Basics) (decl : Decl) → ConstantFits basics decl → ConstantFits basics (decl_written full decl)
 constant_kept basics (constant_of pos type value) fits = (fits.0, fits.1, basic_kept basics type ∙ fits.2, fits.3, fits.4)

@@ -1,5 +1,4 @@
 -- What is asked of a declaration, before what is written of it.
-use Rattle.std.specs.Prelude.{◌^◌, ◌<◌}
 use Rattle.std.specs.List.{AllByRecursion}
 use Rattle.position_codec.specs.Place.{place_of}
 use Rattle.position_codec.specs.Position.{IsPlace}
@@ -8,12 +7,11 @@ use Rattle.type_terms.specs.Parts.{Within}
 use Rattle.type_terms.specs.Declarations.{Decl, form_types}
 use Rattle.type_terms.specs.DeclarationRules.{IsProperDecl}
 use Rattle.decl_spelling.specs.Sections.{Basics}
-use Rattle.file_layout.specs.Items.{Item, a_number, a_position, level_items, decl_items}
+use Rattle.file_layout.specs.Items.{Item, a_position, level_items, decl_items}
 use Rattle.file_layout.specs.Conditions.{ConstantFits}
 
--- Numbers have 64 bits, and those of a position 32.
+-- The numbers of a position have 32 bits. Nothing is asked of other numbers.
 abbrev pub IsSmall : Item → Type 0
-IsSmall (a_number n) = n < 2 ^ 64
 IsSmall (a_position pos) = IsPlace (place_of pos)
 IsSmall _ = Unit {0}
 
@@ -21,7 +19,7 @@ IsSmall _ = Unit {0}
 abbrev pub IsSmallType : Tree → Type 0
 IsSmallType type = (part : Tree) → Within type part → AllByRecursion IsSmall (level_items (level_of part))
 
--- It keeps the rules on declarations, its numbers fit, and a constant is one of its type.
+-- It keeps the rules on declarations, its positions fit, and a constant is one of its type.
 pub record IsWritable (basics : Basics) (decl : Decl) : Type 0 where
   pub proper : IsProperDecl decl
   pub small : AllByRecursion IsSmall (decl_items basics decl)

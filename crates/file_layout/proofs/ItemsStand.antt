@@ -22,6 +22,7 @@ use Rattle.file_layout.specs.Items.{Item, a_number, a_flag, a_text, a_path, a_po
 use Rattle.file_layout.specs.Bytes.{flag_bytes, whole_bytes, same_file, place_bytes, place_after, path_text, item_bytes, items_bytes}
 use Rattle.file_layout.proofs.ItemsHere.{flag_is, Placed, place_is}
 use Rattle.file_layout.proofs.WholeHere.{whole_is}
+use Rattle.file_layout.proofs.Numbers.{NumberFits, NumbersFit}
 
 -- what is there, by a number for each type
 abbrev pub IsItem : Sections → (Tree → ℕ) → Here → Item → Here → Type 0
@@ -33,9 +34,9 @@ IsItem src number a (a_position pos) b = (x : SpelledPos) × (x.pos ≡ pos) × 
 IsItem src number a (a_type type) b = IsNumber a (number type) b
 IsItem src number a (a_whole signed max v) b = Begins (Whole signed max) a.left v b.left × (b.before ≡ a.before)
 
--- what lets an item stand behind a place
+-- what lets an item stand behind a place, beside that a number has 64 bits (`NumberFits`)
 abbrev pub MayStand : Text → List Text → List Text → (Tree → ℕ) → Place → Item → Type 0
-MayStand own paths texts number before (a_number n) = n < 2 ^ 64
+MayStand own paths texts number before (a_number n) = Unit {0}
 MayStand own paths texts number before (a_flag x) = Unit {0}
 MayStand own paths texts number before (a_text text) = Contains texts text
 MayStand own paths texts number before (a_path path) = Contains texts (path_text own path) × IsPathFor own paths (path_text own path) path
@@ -96,15 +97,15 @@ module _ (src : Sections) (texts : List Text) (number : Tree → ℕ) (strings_a
         ),
       )
 
-  pub item_here : (before : Place) (name : Option ℕ) (x : Item) (rest : List ℕ) → IsPlace before → MayStand src.own src.paths texts number before x
+  pub item_here : (before : Place) (name : Option ℕ) (x : Item) (rest : List ℕ) → IsPlace before → NumberFits x → MayStand src.own src.paths texts number before x
       → (after : Option ℕ) × IsItem src number (here_with (bytes_of before x ++ rest) before name) x (here_with rest (place_after before x) after)
-  item_here before name (a_number n) rest from may = (name, (number_front n rest may, refl))
-  item_here before name (a_flag x) rest from may = (name, ((flag_bytes x, flag_is x, refl), refl))
-  item_here before name (a_text text) rest from may = (name, (text_spelled text, refl, text_here text rest before name may))
-  item_here before name (a_path path) rest from may = (name, (path_spelled path, refl, path_here path rest before name may.0 may.1))
-  item_here before name (a_position pos) rest from may = let x = position_here pos rest before name from may.0 may.1 may.2 in (x.0, (x.1, x.2, x.3))
-  item_here before name (a_type type) rest from may = (name, (number_front (number type) rest may, refl))
-  item_here before name (a_whole signed max v) rest from may = (name, ((whole_bytes signed max v, whole_is signed max v may.0 may.1, refl), refl))
+  item_here before name (a_number n) rest from small may = (name, (number_front n rest small, refl))
+  item_here before name (a_flag x) rest from small may = (name, ((flag_bytes x, flag_is x, refl), refl))
+  item_here before name (a_text text) rest from small may = (name, (text_spelled text, refl, text_here text rest before name may))
+  item_here before name (a_path path) rest from small may = (name, (path_spelled path, refl, path_here path rest before name may.0 may.1))
+  item_here before name (a_position pos) rest from small may = let x = position_here pos rest before name from may.0 may.1 may.2 in (x.0, (x.1, x.2, x.3))
+  item_here before name (a_type type) rest from small may = (name, (number_front (number type) rest may, refl))
+  item_here before name (a_whole signed max v) rest from small may = (name, ((whole_bytes signed max v, whole_is signed max v may.0 may.1, refl), refl))
 
   stays_place : (before : Place) (x : Item) → IsPlace before → MayStand src.own src.paths texts number before x → IsPlace (place_after before x)
   stays_place before (a_position pos) from may = may.1
@@ -115,12 +116,12 @@ module _ (src : Sections) (texts : List Text) (number : Tree → ℕ) (strings_a
   stays_place before (a_type type) from may = from
   stays_place before (a_whole signed max v) from may = from
 
-  pub items_here : (before : Place) (name : Option ℕ) (xs : List Item) (rest : List ℕ) → IsPlace before → AllMayStand src.own src.paths texts number before xs
+  pub items_here : (before : Place) (name : Option ℕ) (xs : List Item) (rest : List ℕ) → IsPlace before → NumbersFit xs → AllMayStand src.own src.paths texts number before xs
       → (after : Option ℕ) × InTurn (IsItem src number) (here_with (all_bytes_of before xs ++ rest) before name) xs (here_with rest (last_place before xs) after)
-  items_here before name [] rest from may = (name, refl)
-  items_here before name (x ∷ xs) rest from may =
-      let first = item_here before name x (all_bytes_of (place_after before x) xs ++ rest) from may.0 in
-      let others = items_here (place_after before x) first.0 xs rest (stays_place before x from may.0) may.1 in
+  items_here before name [] rest from small may = (name, refl)
+  items_here before name (x ∷ xs) rest from small may =
+      let first = item_here before name x (all_bytes_of (place_after before x) xs ++ rest) from small.0 may.0 in
+      let others = items_here (place_after before x) first.0 xs rest (stays_place before x from may.0) small.1 may.1 in
       let next = here_with (all_bytes_of (place_after before x) xs ++ rest) (place_after before x) first.0 in (
         others.0,
         (

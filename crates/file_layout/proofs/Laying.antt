@@ -95,7 +95,7 @@ module _ (own : Text) (paths texts : List Text) (basics : Basics) (decls : QName
 
   may_stand : (walk : Tree → List Event) (before : Place) (xs : List Item) → AllByRecursion ItemFits xs → AllKnown (items_events walk before xs) → AllMay before xs
   may_stand walk before [] fits known = tt
-  may_stand walk before (a_number n ∷ xs) fits known = (fits.0, may_stand walk before xs fits.1 known)
+  may_stand walk before (a_number n ∷ xs) fits known = (tt, may_stand walk before xs fits.1 known)
   may_stand walk before (a_flag x ∷ xs) fits known = (tt, may_stand walk before xs fits.1 known)
   may_stand walk before (a_text text ∷ xs) fits known = (known.0, may_stand walk before xs fits.1 known.1)
   may_stand walk before (a_path path ∷ xs) fits known = (known.0, may_stand walk before xs fits.1 known.1)

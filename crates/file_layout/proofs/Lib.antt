@@ -1,6 +1,7 @@
 pub mod Examples
 pub mod ItemsHere
 pub mod WholeHere
+pub mod Numbers
 pub mod ItemsStand
 pub mod MeantTwice
 pub mod DescriptorsHere

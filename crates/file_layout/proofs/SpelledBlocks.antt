@@ -4,7 +4,6 @@ use Rattle.std.specs.Prelude.{IsTrue}
 use Rattle.std.specs.List.{Contains, AllByRecursion}
 use Rattle.std.proofs.lemmas.List.Elements.{All-from_recursion}
 use Rattle.std.proofs.Math.Seq.{drop-append_seam}
-use Rattle.go_values.specs.declared.positions.Pos.{Pos}
 use Rattle.go_values.specs.declared.qualified.QName.{QName}
 use Rattle.code_tables.specs.declared.predeclared.Basic.{Basic}
 use Rattle.code_tables.specs.declared.predeclared.Basic.TheVariants as basics
@@ -37,6 +36,7 @@ use Rattle.file_layout.specs.Items.{Item, a_number, a_flag, a_text, a_path, a_po
 use Rattle.file_layout.specs.Bytes.{items_bytes}
 use Rattle.file_layout.specs.Walk.{is_made}
 use Rattle.file_layout.specs.Places.{start_of, number_in, number_from, Line, Written}
+use Rattle.file_layout.proofs.Numbers.{NumbersFit, each_item_has_a_byte, level_numbers, decl_numbers}
 use Rattle.file_layout.proofs.ItemsStand.{IsItem, AllMayStand, last_place, here_with, items_here}
 use Rattle.file_layout.proofs.MeantTwice.{meant_twice, form_twice as form_meant_twice}
 use Rattle.file_layout.proofs.DescriptorsHere.{TypeAt, shape_tree, spell, level_there}
@@ -168,16 +168,21 @@ module _ (own : Text) (paths texts : List Text) (basics : Basics) (decls : QName
   abbrev items_of : List Block → List Item → List ℕ
   items_of before items = items_bytes own (text_number texts) (number_in before) no_place items
 
-  items_there : {start end : ℕ} {piece : List Block → List ℕ} {items : List Item} → (lies : Lying start end piece items) → (rest : List ℕ)
+  -- There are no more items than bytes, and these stand in the data section.
+  few_items : {start end : ℕ} {piece : List Block → List ℕ} {items : List Item} → (lies : Lying start end piece items) → length (items_of lies.before items) ≤ length (piece lies.before) → length items < 2 ^ 64
+  few_items {items = items} lies held =
+      omega (arith, each_item_has_a_byte own (text_number texts) (number_in lies.before) no_place items, held, lies.ends, (starts_inside lies).1, body_fits)
+
+  items_there : {start end : ℕ} {piece : List Block → List ℕ} {items : List Item} → (lies : Lying start end piece items) → (rest : List ℕ) → NumbersFit items
       → (name : Option ℕ) × InTurn (IsItem src (number_in lies.before)) (here_with (items_of lies.before items ++ rest) no_place None) items (here_with rest (last_place no_place items) name)
-  items_there {items = items} lies rest =
+  items_there {items = items} lies rest small =
       let may = all_known own paths texts (number_in lies.before) no_place items lies.may (all_weaker (Placed lies.before) (λ t. number_in lies.before t < 2 ^ 64) (number_small lies) (items_types items) lies.placed) in
       let may' : AllMayStand src.own src.paths texts (number_in lies.before) no_place items =
       subst (λ (o : Text). AllMayStand o src.paths texts (number_in lies.before) no_place items) (sym own_is)
       (subst (λ (ps : List Text). AllMayStand own ps texts (number_in lies.before) no_place items) (sym paths_are) may)
       in
       subst (λ (o : Text). (name : Option ℕ) × InTurn (IsItem src (number_in lies.before)) (here_with (items_bytes o (text_number texts) (number_in lies.before) no_place items ++ rest) no_place None) items (here_with rest (last_place no_place items) name)) own_is
-      (items_here src texts (number_in lies.before) strings_are strings_fit no_place None items rest (omega arith, omega arith) may')
+      (items_here src texts (number_in lies.before) strings_are strings_fit no_place None items rest (omega arith, omega arith) small may')
 
   piece_there : {start end : ℕ} {piece : List Block → List ℕ} {items : List Item} → (lies : Lying start end piece items) → drop start src.body ≡ piece lies.before ++ lies.rest
   piece_there {start} {piece = piece} lies =
@@ -215,7 +220,7 @@ module _ (own : Text) (paths texts : List Text) (basics : Basics) (decls : QName
       let items = level_items level in
       let number' = number_in lies.before in
       let a = here_with (items_of lies.before items ++ lies.rest) no_place None in
-      let stand = items_there lies lies.rest in
+      let stand = items_there lies lies.rest (level_numbers level there.fits.proper (few_items lies (omega arith))) in
       let after = here_with lies.rest (last_place no_place items) stand.0 in
       let descriptor = level_there src number' level a after version there.fits.proper there.fits.no_origin stand.1 (some_items b.tree there.made) in
       let y = descriptor.0 in
@@ -256,7 +261,7 @@ module _ (own : Text) (paths texts : List Text) (basics : Basics) (decls : QName
       let items = decl_items basics decl in
       let number' = number_in lies.before in
       let bytes = items_of lies.before items ++ lies.rest in
-      let stand = items_there lies lies.rest in
+      let stand = items_there lies lies.rest (decl_numbers basics decl (few_items lies (omega arith))) in
       let after = here_with lies.rest (last_place no_place items) stand.0 in
       let form = form_there src number' basics decl (here_with bytes no_place None) after version there.fits.proper there.fits.constant stand.1 in
       let y = form.0 in

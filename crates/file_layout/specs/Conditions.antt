@@ -1,5 +1,5 @@
 -- What a layout asks of what is written.
-use Rattle.std.specs.Prelude.{◌≡◌, ◌^◌, ◌<◌, [], IsTrue, Some}
+use Rattle.std.specs.Prelude.{◌≡◌, [], IsTrue, Some}
 use Rattle.std.specs.List.{AllByRecursion}
 use Rattle.wire_bytes.specs.Whole.{IsGreatestLength, in_range}
 use Rattle.position_codec.specs.Place.{place_of, pos_of}
@@ -13,12 +13,12 @@ use Rattle.decl_spelling.specs.Sections.{Basics}
 use Rattle.decl_spelling.specs.Constants.{Spelling, flag, offset, number, spelled, kind_of, basic_type}
 use Rattle.go_values.specs.declared.constants.Const.{Const}
 use Rattle.go_values.specs.declared.constants.Const.TheVariants.{Bool as truth, Int as whole, Str as chars}
-use Rattle.file_layout.specs.Items.{Item, a_number, a_position, a_whole, level_items}
+use Rattle.file_layout.specs.Items.{Item, a_position, a_whole, level_items}
 use Rattle.file_layout.specs.Items.{decl_items}
 
--- A position has 32 bits and is the one that is read back; a number has 64; and a whole number is one of its type.
+-- A position has 32 bits and is the one that is read back; and a whole number is one of its type. Nothing is asked of
+-- numbers: the file's length bounds the counts, and the rules on declarations bound the lengths of arrays.
 abbrev pub ItemFits : Item → Type 0
-ItemFits (a_number n) = n < 2 ^ 64
 ItemFits (a_position pos) = (pos ≡ pos_of (place_of pos)) × IsPlace (place_of pos)
 ItemFits (a_whole signed max v) = IsGreatestLength max × IsTrue (in_range signed max v)
 ItemFits _ = Unit {0}
