@@ -1,5 +1,6 @@
-ghost use Rattle.std.specs.Prelude.{◌≡◌, List};
+ghost use Rattle.std.specs.Prelude.{◌≡◌, List, Err};
 ghost use Rattle.source_places.specs.declared.places.Found.{Found};
+ghost use Rattle.source_places.specs.declared.stages.StageError.TheVariants.{Failed};
 ghost use Rattle.source_places.specs.Places.{least};
 ghost use Rattle.source_places.specs.Stages.{IsStage};
 
@@ -21,7 +22,8 @@ pub enum StageError<K, C, E> {
 
 /// Goes on where a code has no place, and else refuses at the first one, which is given.
 pub fn settle<K: Drop, C, E>(code: K, first: Option<Found<C>>) -> Result<(), StageError<K, C, E>>
-    ensures { (places : K → List (Found C)) → first ≡ least (places code) → IsStage places code result }
+    ensures stage { (places : K → List (Found C)) → first ≡ least (places code) → IsStage places code result }
+    ensures never_fails { (failure : E) → result ≡ Err (Failed failure) → ⊥ }
 {
     match first {
         None => Ok(()),
