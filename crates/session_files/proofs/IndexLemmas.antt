@@ -18,7 +18,7 @@ use Rattle.name_index.specs.FullFile.{Listed, listed}
 use Rattle.name_index.specs.Lookup.{as_listed}
 use Rattle.session_files.specs.Sessions.{Opened, IsUnknown, ListsAt, Stands, qualified, all_listed, all_names, IsNameCount}
 use Rattle.session_files.specs.OpenSessions.{key_of}
-use Rattle.session_files.specs.Index.{as_qname, name_cmp, NamesRise, Spot, qname_at, IsIndex, Key, spot_of, keys_from, key_cmp, firsts_after}
+use Rattle.session_files.specs.Index.{as_qname, name_cmp, NamesRise, Spot, qname_at, IsIndex, Key, spot_of, names_of, keys_from, key_cmp, firsts_after}
 use Rattle.session_files.specs.declared.index.NameKey.{NameKey}
 use Rattle.session_files.proofs.Bytes.{one_of}
 use Rattle.session_files.proofs.Standing.{in_all}
@@ -33,7 +33,7 @@ contains xs x has = (has.0, slice_get_within xs has.0 x has.1, get_or_from_slice
 pub has : {X : Type 0} (xs : List X) (x : X) → Contains xs x → Has xs x
 has xs x c = (c.0, slice_get_read xs (length xs) c.0 x refl c.1 (sym c.2))
 
-has_map : {X Y : Type 0} (f : X → Y) (xs : List X) (x : X) → Has xs x → Has (map f xs) (f x)
+pub has_map : {X Y : Type 0} (f : X → Y) (xs : List X) (x : X) → Has xs x → Has (map f xs) (f x)
 has_map f xs x there = (there.0, slice_get-map f xs there.0 ∙ ap (option_map f) there.1)
 
 pub record Mapped {X Y : Type 0} (f : X → Y) (xs : List X) (y : Y) (i : ℕ) : Type 0 where
@@ -53,11 +53,11 @@ then_thrice Less b c = refl
 then_thrice Equal b c = refl
 then_thrice Greater b c = refl
 
-abbrev flat_cmp : Key → Key → Ordering
+abbrev pub flat_cmp : Key → Key → Ordering
 flat_cmp a b =
     ordering_then (slice_cmp nat_cmp a.qname.path b.qname.path) (ordering_then (slice_cmp nat_cmp a.qname.name b.qname.name) (ordering_then (nat_cmp a.file b.file) (nat_cmp a.number b.number)))
 
-sorted_rise : (keys : List NameKey) → IsSortedBy (λ a b. is_lt (flat_cmp (key_of a) (key_of b))) keys → Rises (map key_of keys)
+pub sorted_rise : (keys : List NameKey) → IsSortedBy (λ a b. is_lt (flat_cmp (key_of a) (key_of b))) keys → Rises (map key_of keys)
 sorted_rise keys sorted = rises (map key_of keys) pairs
   where
     flat : (a b : NameKey) → key_cmp (key_of a) (key_of b) ≡ flat_cmp (key_of a) (key_of b)
@@ -79,13 +79,22 @@ sorted_rise keys sorted = rises (map key_of keys) pairs
         ∙ ap (λ (a : NameKey). is_lt (key_cmp (key_of (get_or keys j x.x)) (key_of a))) (sym first)
         ∙ far
 
+-- the keys stand among those in order, and these among them
+pub to_sorted : (keys sorted : List NameKey) (ks : List Key) → map key_of keys ≡ ks → IsPermutation keys sorted → (k : Key) → Has ks k → Has (map key_of sorted) k
+to_sorted keys sorted ks all moved k there = has (map key_of sorted) k (Contains-permutation (map key_of keys) (map key_of sorted) k (IsPermutation-map key_of keys sorted moved)
+    (contains (map key_of keys) k (subst (λ xs. Has xs k) (sym all) there)))
+
+pub from_sorted : (keys sorted : List NameKey) (ks : List Key) → map key_of keys ≡ ks → IsPermutation keys sorted → (k : Key) → Has (map key_of sorted) k → Has ks k
+from_sorted keys sorted ks all moved k there = subst (λ xs. Has xs k) all (has (map key_of keys) k (Contains-permutation (map key_of sorted) (map key_of keys) k
+    (IsPermutation-sym (map key_of keys) (map key_of sorted) (IsPermutation-map key_of keys sorted moved)) (contains (map key_of sorted) k there)))
+
 -- the first of all keys of a name
-first_stands : (files : List Opened) (keys : List Key) → ((k : Key) → Has keys k → Has (keys_from 0 files) k) → ((k : Key) → Has (keys_from 0 files) k → Has keys k) → (k : Key) → IsFirstOf keys k
+first_stands : (files : List Opened) (keys : List Key) → ((k : Key) → Has keys k → Has (keys_from names_of 0 files) k) → ((k : Key) → Has (keys_from names_of 0 files) k → Has keys k) → (k : Key) → IsFirstOf keys k
     → (qname_at files (spot_of k) ≡ k.qname) × Stands files k.qname.path k.qname.name k.file k.number
 first_stands files keys from to k is = (named, (listed_key.o, listed_key.l.offset, record { there = there; listed = is_listed; first = first }))
   where
-    listed_key : IsListedKey 0 files k
-    listed_key = from_key 0 files k (from k is.there)
+    listed_key : IsListedKey names_of 0 files k
+    listed_key = from_key names_of 0 files k (from k is.there)
 
     there : slice_get files k.file ≡ Some listed_key.o
     there = let file : k.file ≡ listed_key.file = listed_key.its_file ∙ omega arith in ap (slice_get files) file ∙ listed_key.there
@@ -105,7 +114,7 @@ first_stands files keys from to k is = (named, (listed_key.o, listed_key.l.offse
     first earlier n at other lt at_earlier is_at =
         let no : 0 + earlier ≡ earlier = omega arith in
         let y : Key = record { qname = k.qname; file = earlier; number = n } in
-        let in_from : Has (keys_from 0 files) y = subst (λ (m : ℕ). Has (keys_from 0 files) (record { qname = k.qname; file = m; number = n })) no (key_from 0 files earlier other n (as_listed k.qname.path k.qname.name at) at_earlier is_at) in
+        let in_from : Has (keys_from names_of 0 files) y = subst (λ (m : ℕ). Has (keys_from names_of 0 files) (record { qname = k.qname; file = m; number = n })) no (key_from names_of 0 files earlier other n (as_listed k.qname.path k.qname.name at) at_earlier is_at) in
         let above = is.first y (to y in_from) refl in
         let files_rise : nat_cmp earlier k.file ≡ Less = below earlier k.file lt in
         let less : key_cmp y k ≡ Less = ap (λ r. ordering_then r (ordering_then (nat_cmp earlier k.file) (nat_cmp n k.number))) (tied_itself by_name k.qname) ∙ ap (λ r. ordering_then r (nat_cmp n k.number)) files_rise in
@@ -115,7 +124,7 @@ first_stands files keys from to k is = (named, (listed_key.o, listed_key.l.offse
         below : (a b : ℕ) → a < b → nat_cmp a b ≡ Less
         below a b lt = grind arith
 
-pub index_made : (files : List Opened) (keys sorted : List NameKey) (index : List Spot) → map key_of keys ≡ keys_from 0 files → IsPermutation keys sorted
+pub index_made : (files : List Opened) (keys sorted : List NameKey) (index : List Spot) → map key_of keys ≡ keys_from names_of 0 files → IsPermutation keys sorted
     → IsSortedBy (λ a b. is_lt (flat_cmp (key_of a) (key_of b))) sorted → index ≡ map spot_of (firsts_after None (map key_of sorted)) → IsIndex files index
 index_made files keys sorted index all moved in_order made = subst (IsIndex files) (sym made) (record { first = first; rise = rise; all = every })
   where
@@ -128,17 +137,9 @@ index_made files keys sorted index all moved in_order made = subst (IsIndex file
     firsts : AreFirsts (map key_of sorted) (firsts_after None (map key_of sorted))
     firsts = are_firsts (map key_of sorted) (sorted_rise sorted in_order)
 
-    to : (k : Key) → Has (keys_from 0 files) k → Has (map key_of sorted) k
-    to k there = has (map key_of sorted) k (Contains-permutation (map key_of keys) (map key_of sorted) k (IsPermutation-map key_of keys sorted moved)
-        (contains (map key_of keys) k (subst (λ xs. Has xs k) (sym all) there)))
-
-    from : (k : Key) → Has (map key_of sorted) k → Has (keys_from 0 files) k
-    from k there = subst (λ xs. Has xs k) all (has (map key_of keys) k (Contains-permutation (map key_of sorted) (map key_of keys) k
-        (IsPermutation-sym (map key_of keys) (map key_of sorted) (IsPermutation-map key_of keys sorted moved)) (contains (map key_of sorted) k there)))
-
     stands : AllByRecursion (λ k. (qname_at files (spot_of k) ≡ k.qname) × Stands files k.qname.path k.qname.name k.file k.number) (firsts_after None (map key_of sorted))
     stands = all_more (IsFirstOf (map key_of sorted)) (λ k. (qname_at files (spot_of k) ≡ k.qname) × Stands files k.qname.path k.qname.name k.file k.number) (firsts_after None (map key_of sorted))
-        (λ k is. first_stands files (map key_of sorted) from to k is) firsts.first
+        (λ k is. first_stands files (map key_of sorted) (from_sorted keys sorted (keys_from names_of 0 files) all moved) (to_sorted keys sorted (keys_from names_of 0 files) all moved) k is) firsts.first
 
     names : map (qname_at files) (map spot_of (firsts_after None (map key_of sorted))) ≡ map (λ k. k.qname) (firsts_after None (map key_of sorted))
     names = go (firsts_after None (map key_of sorted)) stands
@@ -159,8 +160,8 @@ index_made files keys sorted index all moved in_order made = subst (IsIndex file
     every : (q : QName) → Contains (all_names files) q → Contains (map (qname_at files) (map spot_of (firsts_after None (map key_of sorted)))) q
     every q there =
         let at = has (all_names files) q there in
-        let m = mapped (λ (k : Key). k.qname) (keys_from 0 files) q at.0 (ap (λ qs. slice_get qs at.0) (names_from 0 files) ∙ at.1) in
-        let found = firsts.every m.x (to m.x (at.0, m.at)) in
+        let m = mapped (λ (k : Key). k.qname) (keys_from names_of 0 files) q at.0 (ap (λ qs. slice_get qs at.0) (names_from 0 files) ∙ at.1) in
+        let found = firsts.every m.x (to_sorted keys sorted (keys_from names_of 0 files) all moved m.x (at.0, m.at)) in
         let here = subst (λ (q : QName). Has (map (λ k. k.qname) (firsts_after None (map key_of sorted))) q) m.is found in
         contains (map (qname_at files) (map spot_of (firsts_after None (map key_of sorted)))) q (subst (λ (qs : List QName). Has qs q) (sym names) here)
 

@@ -5,7 +5,7 @@ use Rattle.go_values.specs.declared.qualified.QName.{QName}
 use Rattle.name_index.specs.FullFile.{Listed, listed}
 use Rattle.session_files.specs.Sessions.{Opened, qualified, all_listed, all_names}
 use Rattle.session_files.specs.OpenSessions.{key_of}
-use Rattle.session_files.specs.Index.{Key, keys_in, keys_from}
+use Rattle.session_files.specs.Index.{Key, keys_in, keys_from, names_of}
 use Rattle.session_files.specs.declared.index.NameKey.{NameKey}
 use Rattle.session_files.proofs.LoadingLemmas.{map_join}
 use Rattle.session_files.proofs.PackageLemmas.{drop_next_one}
@@ -36,11 +36,11 @@ names_in : (file n : ℕ) (ls : List Listed) → map (λ k. k.qname) (keys_in fi
 names_in file n [] = refl
 names_in file n (l ∷ ls) = ap (λ qs. qualified l ∷ qs) (names_in file (suc n) ls)
 
-pub names_from : (file : ℕ) (files : List Opened) → map (λ k. k.qname) (keys_from file files) ≡ all_names files
+pub names_from : (file : ℕ) (files : List Opened) → map (λ k. k.qname) (keys_from names_of file files) ≡ all_names files
 names_from file [] = refl
 names_from file (o ∷ os) =
-    map-append (λ k. k.qname) (keys_in file 0 (listed o.file.packages)) (keys_from (suc file) os)
-    ∙ ap (λ qs. qs ++ map (λ k. k.qname) (keys_from (suc file) os)) (names_in file 0 (listed o.file.packages))
+    map-append (λ k. k.qname) (keys_in file 0 (listed o.file.packages)) (keys_from names_of (suc file) os)
+    ∙ ap (λ qs. qs ++ map (λ k. k.qname) (keys_from names_of (suc file) os)) (names_in file 0 (listed o.file.packages))
     ∙ ap (λ qs. map qualified (listed o.file.packages) ++ qs) (names_from (suc file) os)
     ∙ sym (map-append qualified (listed o.file.packages) (all_listed os))
 
@@ -73,31 +73,31 @@ key_in file n (m ∷ ls) (suc i) l at =
     (suc later.0, later.1 ∙ ap (λ (n : ℕ). Some (key (qualified l) file n)) moved)
 
 -- each listed name has a key
-pub key_from : (first : ℕ) (files : List Opened) (file : ℕ) (o : Opened) (n : ℕ) (l : Listed) → slice_get files file ≡ Some o → slice_get (listed o.file.packages) n ≡ Some l
-    → Has (keys_from first files) (key (qualified l) (first + file) n)
-key_from first [] file o n l there at = absurd cc
-key_from first (f ∷ fs) zero o n l there at =
+pub key_from : (rows : Opened → List Listed) (first : ℕ) (files : List Opened) (file : ℕ) (o : Opened) (n : ℕ) (l : Listed) → slice_get files file ≡ Some o → slice_get (rows o) n ≡ Some l
+    → Has (keys_from rows first files) (key (qualified l) (first + file) n)
+key_from rows first [] file o n l there at = absurd cc
+key_from rows first (f ∷ fs) zero o n l there at =
     let same : f ≡ o = cc in
     let none : first ≡ first + 0 = omega arith in
     let no : 0 + n ≡ n = omega arith in
-    let has = key_in first 0 (listed f.file.packages) n l (ap (λ (x : Opened). slice_get (listed x.file.packages) n) same ∙ at) in (
+    let has = key_in first 0 (rows f) n l (ap (λ (x : Opened). slice_get (rows x) n) same ∙ at) in (
       has.0,
-      left_part (keys_in first 0 (listed f.file.packages)) (keys_from (suc first) fs) has.0 _ has.1
+      left_part (keys_in first 0 (rows f)) (keys_from rows (suc first) fs) has.0 _ has.1
           ∙ ap (λ (n : ℕ). Some (key (qualified l) first n)) no
           ∙ ap (λ (m : ℕ). Some (key (qualified l) m n)) none,
     )
-key_from first (f ∷ fs) (suc file) o n l there at =
+key_from rows first (f ∷ fs) (suc file) o n l there at =
     let moved : suc first + file ≡ first + suc file = omega arith in
-    right_part (keys_in first 0 (listed f.file.packages)) (keys_from (suc first) fs) _ (subst (λ (m : ℕ). Has (keys_from (suc first) fs) (key (qualified l) m n)) moved (key_from (suc first) fs file o n l there at))
+    right_part (keys_in first 0 (rows f)) (keys_from rows (suc first) fs) _ (subst (λ (m : ℕ). Has (keys_from rows (suc first) fs) (key (qualified l) m n)) moved (key_from rows (suc first) fs file o n l there at))
 
 -- what a key says
-pub record IsListedKey (first : ℕ) (files : List Opened) (k : Key) : Type 0 where
+pub record IsListedKey (rows : Opened → List Listed) (first : ℕ) (files : List Opened) (k : Key) : Type 0 where
   pub file : ℕ
   pub o : Opened
   pub l : Listed
   pub its_file : k.file ≡ first + file
   pub there : slice_get files file ≡ Some o
-  pub at : slice_get (listed o.file.packages) k.number ≡ Some l
+  pub at : slice_get (rows o) k.number ≡ Some l
   pub named : k.qname ≡ qualified l
 
 record IsKeyIn (file n : ℕ) (ls : List Listed) (k : Key) : Type 0 where
@@ -119,16 +119,16 @@ in_key file n (l ∷ ls) (suc j) k at =
     let moved : suc n + later.i ≡ n + suc later.i = omega arith in
     record { i = suc later.i; l = later.l; at = later.at; its_file = later.its_file; number = later.number ∙ moved; named = later.named }
 
-pub from_key : (first : ℕ) (files : List Opened) (k : Key) → Has (keys_from first files) k → IsListedKey first files k
-from_key first [] k has = let at = has.1 in absurd cc
-from_key first (o ∷ os) k has = elim (either_part (keys_in first 0 (listed o.file.packages)) (keys_from (suc first) os) has.0 k has.1) [
+pub from_key : (rows : Opened → List Listed) (first : ℕ) (files : List Opened) (k : Key) → Has (keys_from rows first files) k → IsListedKey rows first files k
+from_key rows first [] k has = let at = has.1 in absurd cc
+from_key rows first (o ∷ os) k has = elim (either_part (keys_in first 0 (rows o)) (keys_from rows (suc first) os) has.0 k has.1) [
   | inl here ↦
-      let is = in_key first 0 (listed o.file.packages) has.0 k here in
+      let is = in_key first 0 (rows o) has.0 k here in
       let none : first ≡ first + 0 = omega arith in
       let number : k.number ≡ is.i = is.number ∙ omega arith in
-      record { file = 0; o = o; l = is.l; its_file = is.its_file ∙ none; there = refl; at = ap (slice_get (listed o.file.packages)) number ∙ is.at; named = is.named }
+      record { file = 0; o = o; l = is.l; its_file = is.its_file ∙ none; there = refl; at = ap (slice_get (rows o)) number ∙ is.at; named = is.named }
   | inr later ↦
-      let is = from_key (suc first) os k later in
+      let is = from_key rows (suc first) os k later in
       let moved : suc first + is.file ≡ first + suc is.file = omega arith in
       record { file = suc is.file; o = is.o; l = is.l; its_file = is.its_file ∙ moved; there = is.there; at = is.at; named = is.named }
 ]

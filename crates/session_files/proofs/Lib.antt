@@ -10,4 +10,5 @@ mod PackageLemmas
 mod KeyLemmas
 mod KeyListLemmas
 mod IndexLemmas
+mod PathLemmas
 mod WayLemmas

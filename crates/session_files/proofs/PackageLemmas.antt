@@ -1,12 +1,10 @@
 -- The first package with a path.
-use Rattle.std.proofs.Common.{◌≡◌, ℕ, zero, suc, ◌+◌, ◌<◌, List, [], ◌∷◌, ◌++◌, Bool, true, false, cond, length, drop, Option, Some, None, slice_get, sym, ap, ◌∙◌, arith}
+use Rattle.std.proofs.Common.{◌≡◌, ℕ, zero, suc, ◌+◌, ◌<◌, List, [], ◌∷◌, ◌++◌, Bool, true, false, cond, drop, Option, Some, None, slice_get, refl, sym, ap, ◌∙◌, arith}
 use Rattle.std.specs.Prelude.{nat_eq}
-use Rattle.std.specs.Cmp.Lexicographic.{pointwise}
+use Rattle.std.specs.Cmp.Lexicographic.{pointwise, bytes_decides}
 use Rattle.std.specs.List.{flat_map}
 use Rattle.name_index.specs.FullFile.{Package}
-use Rattle.name_index.specs.Lookup.{heading_at}
-use Rattle.session_files.specs.declared.files.SessionFile.{SessionFile}
-use Rattle.session_files.specs.OpenSessions.{all_opened}
+use Rattle.session_files.specs.Sessions.{Opened}
 use Rattle.session_files.specs.Names.{named_among}
 use Rattle.session_files.specs.Answers.{packages}
 
@@ -17,25 +15,6 @@ drop_next (y ∷ xs) (suc i) x at = drop_next xs i x at
 
 pub drop_next_one : {X : Type 0} (xs : List X) (i : ℕ) (x : X) → slice_get xs i ≡ Some x → drop i xs ≡ x ∷ drop (i + 1) xs
 drop_next_one xs i x at = let n : suc i ≡ i + 1 = omega arith in drop_next xs i x at ∙ ap (λ n. x ∷ drop n xs) n
-
-pub some_heading : (ps : List Package) (k : ℕ) → k < length ps → heading_at ps k ≡ None → ⊥
-some_heading [] k lt none = omega arith
-some_heading (p ∷ ps) zero lt none = cc
-some_heading (p ∷ ps) (suc k) lt none = some_heading ps k (omega arith) none
-
--- package k, or a later one
-pub named_here : (ps : List Package) (k : ℕ) (path listed name : List ℕ) → Some (listed, name) ≡ heading_at ps k
-    → named_among path (drop k ps) ≡ cond (pointwise nat_eq path listed) (Some name) (named_among path (drop (k + 1) ps))
-named_here ps k path listed name is = let n : suc k ≡ k + 1 = omega arith in go ps k is ∙ ap (λ n. cond (pointwise nat_eq path listed) (Some name) (named_among path (drop n ps))) n
-  where
-    go : (ps : List Package) (k : ℕ) → Some (listed, name) ≡ heading_at ps k → named_among path (drop k ps) ≡ cond (pointwise nat_eq path listed) (Some name) (named_among path (drop (suc k) ps))
-    go [] k is = absurd cc
-    go (p ∷ ps) zero is =
-        let pair : (listed, name) ≡ (p.path, p.name) = cc in
-        let a : p.path ≡ listed = sym (ap (λ (x : List ℕ × List ℕ). x.0) pair) in
-        let b : p.name ≡ name = sym (ap (λ (x : List ℕ × List ℕ). x.1) pair) in
-        ap (λ a. cond (pointwise nat_eq path a) (Some p.name) (named_among path ps)) a ∙ ap (λ b. cond (pointwise nat_eq path listed) (Some b) (named_among path ps)) b
-    go (p ∷ ps) (suc k) is = go ps k is
 
 or_else : Option (List ℕ) → Option (List ℕ) → Option (List ℕ)
 or_else (Some x) later = Some x
@@ -51,17 +30,46 @@ named_joined path (p ∷ ps) qs r is = go (pointwise nat_eq path p.path) is (λ 
     go true is later = ap (λ r. or_else r (named_among path qs)) is
     go false is later = later is
 
--- a file has the package, or a later one
-pub package_here : (files : List SessionFile) (i : ℕ) (x : SessionFile) (path name : List ℕ) → slice_get files i ≡ Some x → Some name ≡ named_among path x.image.packages
-    → packages (all_opened (drop i files)) path ≡ Some name
-unfolding or_else
-package_here files i x path name at is =
-    ap (λ fs. packages (all_opened fs) path) (drop_next files i x at)
-    ∙ named_joined path x.image.packages (flat_map (λ o. o.file.packages) (all_opened (drop (suc i) files))) (Some name) (sym is)
+other : (a b : List ℕ) → (a ≡ b → ⊥) → pointwise nat_eq a b ≡ false
+other a b differ = go (pointwise nat_eq a b) refl
+  where
+    go : (c : Bool) → pointwise nat_eq a b ≡ c → pointwise nat_eq a b ≡ false
+    go false e = e
+    go true e = absurd (differ ((bytes_decides a b).0 e))
 
-pub package_later : (files : List SessionFile) (i : ℕ) (x : SessionFile) (path : List ℕ) → slice_get files i ≡ Some x → None ≡ named_among path x.image.packages
-    → packages (all_opened (drop (i + 1) files)) path ≡ packages (all_opened (drop i files)) path
+none_among : (path : List ℕ) (ps : List Package) → ((m : ℕ) (q : Package) → slice_get ps m ≡ Some q → q.path ≡ path → ⊥) → named_among path ps ≡ None
+none_among path [] none = refl
+none_among path (x ∷ ps) none =
+    let differs = other path x.path (λ same. none 0 x refl (sym same)) in
+    ap (λ b. cond b (Some x.name) (named_among path ps)) differs ∙ none_among path ps (λ m q at same. none (suc m) q at same)
+
+first_among : (ps : List Package) (n : ℕ) (p : Package) → slice_get ps n ≡ Some p → ((m : ℕ) (q : Package) → m < n → slice_get ps m ≡ Some q → q.path ≡ p.path → ⊥) → named_among p.path ps ≡ Some p.name
+first_among [] n p at first = absurd cc
+first_among (x ∷ ps) zero p at first =
+    let same : x ≡ p = cc in
+    let is : pointwise nat_eq p.path x.path ≡ true = (bytes_decides p.path x.path).1 (ap (λ (p : Package). p.path) (sym same)) in
+    ap (λ b. cond b (Some x.name) (named_among p.path ps)) is ∙ ap (λ (x : Package). Some x.name) same
+first_among (x ∷ ps) (suc n) p at first =
+    let differs = other p.path x.path (λ same. first 0 x (omega arith) refl (sym same)) in
+    ap (λ b. cond b (Some x.name) (named_among p.path ps)) differs ∙ first_among ps n p at (λ m q lt at_m same. first (suc m) q (omega arith) at_m same)
+
+-- no file lists the path
+pub none_listed : (files : List Opened) (path : List ℕ) → ((g m : ℕ) (r : Opened) (q : Package) → slice_get files g ≡ Some r → slice_get r.file.packages m ≡ Some q → q.path ≡ path → ⊥) → packages files path ≡ None
 unfolding or_else
-package_later files i x path at is =
-    sym (ap (λ fs. packages (all_opened fs) path) (drop_next_one files i x at)
-    ∙ named_joined path x.image.packages (flat_map (λ o. o.file.packages) (all_opened (drop (i + 1) files))) None (sym is))
+none_listed [] path none = refl
+none_listed (x ∷ xs) path none =
+    named_joined path x.file.packages (flat_map (λ o. o.file.packages) xs) None (none_among path x.file.packages (λ m q at same. none 0 m x q refl at same))
+    ∙ none_listed xs path (λ g m r q there at same. none (suc g) m r q there at same)
+
+-- a package whose path no earlier file lists, and no earlier package of its file has, gives the path its name
+pub first_package : (files : List Opened) (f n : ℕ) (o : Opened) (p : Package) → slice_get files f ≡ Some o → slice_get o.file.packages n ≡ Some p
+    → ((g m : ℕ) (r : Opened) (q : Package) → g < f → slice_get files g ≡ Some r → slice_get r.file.packages m ≡ Some q → q.path ≡ p.path → ⊥)
+    → ((m : ℕ) (q : Package) → m < n → slice_get o.file.packages m ≡ Some q → q.path ≡ p.path → ⊥) → packages files p.path ≡ Some p.name
+unfolding or_else
+first_package [] f n o p there at before first = absurd cc
+first_package (x ∷ xs) zero n o p there at before first =
+    let same : x ≡ o = cc in
+    named_joined p.path x.file.packages (flat_map (λ o. o.file.packages) xs) (Some p.name) (ap (λ (o : Opened). named_among p.path o.file.packages) same ∙ first_among o.file.packages n p at first)
+first_package (x ∷ xs) (suc f) n o p there at before first =
+    named_joined p.path x.file.packages (flat_map (λ o. o.file.packages) xs) None (none_among p.path x.file.packages (λ m q at_m same. before 0 m x q (omega arith) refl at_m same))
+    ∙ first_package xs f n o p there at (λ g m r q lt there_g at_m same. before (suc g) m r q (omega arith) there_g at_m same) first

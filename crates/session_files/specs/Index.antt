@@ -57,10 +57,14 @@ keys_in file number [] = []
 keys_in file number (l ∷ ls) =
     record { qname = qualified l; file = file; number = number } ∷ keys_in file (suc number) ls
 
--- the names of all files, of which the first has this number
-abbrev pub keys_from : ℕ → List Opened → List Key
-keys_from file [] = []
-keys_from file (o ∷ os) = keys_in file 0 (listed o.file.packages) ++ keys_from (suc file) os
+-- the names that a file lists
+abbrev pub names_of : Opened → List Listed
+names_of o = listed o.file.packages
+
+-- the keys of all files, by what is asked of each; the first file has this number
+abbrev pub keys_from : (Opened → List Listed) → ℕ → List Opened → List Key
+keys_from rows file [] = []
+keys_from rows file (o ∷ os) = keys_in file 0 (rows o) ++ keys_from rows (suc file) os
 
 -- keys in order: by their names, and then by where they are listed
 abbrev pub key_cmp : Key → Key → Ordering

@@ -5,4 +5,5 @@ pub mod Answers
 pub mod Loading
 pub mod Index
 pub mod Ways
+pub mod PathIndex
 pub mod OpenSessions

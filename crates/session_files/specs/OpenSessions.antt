@@ -8,6 +8,7 @@ use Rattle.go_values.specs.declared.qualified.QName.{QName}
 use Rattle.code_tables.specs.declared.predeclared.Basic.{Basic}
 use Rattle.session_files.specs.Ways.{basic_at}
 use Rattle.session_files.specs.Index.{Spot, IsIndex, Key}
+use Rattle.session_files.specs.PathIndex.{IsPathIndex}
 use Rattle.session_files.specs.declared.files.SessionFile.{SessionFile}
 use Rattle.session_files.specs.declared.files.Place.{Place}
 use Rattle.session_files.specs.declared.index.NameKey.{NameKey}
@@ -19,13 +20,15 @@ opened_of f = record { label = string_bytes f.label; file = f.image }
 abbrev pub all_opened : List SessionFile → List Opened
 all_opened files = map opened_of files
 
--- They are files of bytes, no more than a session may have. There is an index over their names, and it is known what
--- each of these comes down to.
-pub record IsSession (files : List Opened) (index : List Spot) (basics : List (Option Basic)) : Type 0 where
+-- They are files of bytes, no more than a session may have. There is an index over their names, and one over the paths
+-- of their packages. It is known what each name comes down to.
+pub record IsSession (files : List Opened) (index : List Spot) (basics : List (Option Basic)) (paths : List Spot)
+    : Type 0 where
   pub sound : AreSound files
   pub few : length files ≤ MOST_FILES
   pub indexed : IsIndex files index
   pub known : basics ≡ map (basic_at files) index
+  pub paths_indexed : IsPathIndex files paths
 
 -- where the first declaration of a name stands
 pub record IsPlace (files : List Opened) (path name : List ℕ) (place : Place) : Type 0 where

@@ -5,7 +5,7 @@ ghost use Rattle.std.specs.Prelude.{Some, None, IfOk, IfSome, IfNone};
 ghost use Rattle.name_index.specs.FullFile.{listed};
 ghost use Rattle.session_files.specs.OpenSessions.{all_opened, key_of, last_name};
 ghost use Rattle.session_files.specs.Sessions.{IsUnknown, Stands, qualified};
-ghost use Rattle.session_files.specs.Index.{as_qname, name_cmp, listed_at, qname_at};
+ghost use Rattle.session_files.specs.Index.{as_qname, name_cmp, listed_at, names_of, qname_at};
 ghost use Rattle.session_files.specs.Index.{IsIndex, keys_in, keys_from, is_same, firsts_after, spot_of};
 ghost use Rattle.session_files.specs.declared.limits.TheConstants.{MOST_FILES};
 
@@ -14,13 +14,14 @@ use name_index::Image;
 use std::alloc::{AllocError, Global};
 use std::cmp::Ordering;
 
-/// A name, and a place where it is listed: the numbers of its file and in the file's index.
+/// A name, and a place where it is listed: the numbers of its file and in the file's index. The path of a package is a
+/// key with an empty name.
 #[derive(Debug, Drop, Clone, Copy, PartialEq, Eq, PartialOrd, Ord)]
 pub struct NameKey<'a> {
-    path: &'a [u8],
-    name: &'a [u8],
-    file: u32,
-    number: u32,
+    pub path: &'a [u8],
+    pub name: &'a [u8],
+    pub file: u32,
+    pub number: u32,
 }
 
 /// Where each name is listed first, in the order of paths and names: the numbers of its file and in the file's index.
@@ -36,7 +37,7 @@ pub fn index_of(alloc: Global, files: &[SessionFile]) -> Result<Vec<(u32, u32)>,
 /// A key for each name that a file lists.
 fn all_keys(alloc: Global, files: &[SessionFile]) -> Result<Vec<NameKey<'_>>, AllocError>
     requires { length files.now ≤ MOST_FILES }
-    ensures { IfOk result (λ keys. map key_of keys.items ≡ keys_from 0 (all_opened files.now)) }
+    ensures { IfOk result (λ keys. map key_of keys.items ≡ keys_from names_of 0 (all_opened files.now)) }
 {
     let mut keys = Vec::new(alloc);
     for (file, opened) in files.iter().enumerate() {
@@ -64,7 +65,7 @@ fn put_keys<'a>(keys: &mut Vec<NameKey<'a>>, image: &'a Image, file: u32) -> Res
 }
 
 /// Where the first key of each name has it, among keys that are in order.
-fn first_places(alloc: Global, keys: &[NameKey<'_>]) -> Result<Vec<(u32, u32)>, AllocError>
+pub fn first_places(alloc: Global, keys: &[NameKey<'_>]) -> Result<Vec<(u32, u32)>, AllocError>
     ensures { IfOk result (λ places. places.items ≡ map spot_of (firsts_after None (map key_of keys.now))) }
 {
     let mut places = Vec::new(alloc);

@@ -13,7 +13,7 @@ use crate::basics::{all_basics, basic_in};
 use crate::files::{Place, SessionFile, count_listed, place_in};
 use crate::index::index_of;
 use crate::loading::{LoadError, take_all_in};
-use crate::packages::package_in;
+use crate::packages::{package_in, path_index_of};
 use crate::sources::Source;
 use code_tables::Basic;
 use name_index::Image;
@@ -27,6 +27,7 @@ pub struct Session {
     files: Vec<SessionFile>,
     index: Vec<(u32, u32)>,
     basics: Vec<Option<Basic>>,
+    paths: Vec<(u32, u32)>,
 }
 
 impl Model for Session {
@@ -38,7 +39,7 @@ impl Model for Session {
 
     ghost view = { λ s. all_opened s.files.items };
 
-    ghost invariant = { λ s. IsSession (all_opened s.files.items) s.index.items s.basics.items };
+    ghost invariant = { λ s. IsSession (all_opened s.files.items) s.index.items s.basics.items s.paths.items };
 }
 
 impl Session {
@@ -129,15 +130,15 @@ impl Session {
         place_in(&self.files, &self.index, path, name)
     }
 
-    /// The name of the package with the path, by the first file whose index lists it.
+    /// The name of the package with the path, by the first file whose index lists it. The path is found by halves.
     pub fn package(&self, path: &[u8]) -> Option<&[u8]>
         ensures { option_map (λ name. name.now) result ≡ packages self.now path.now }
     {
-        package_in(&self.files, path)
+        package_in(&self.files, &self.paths, path)
     }
 }
 
-/// The session of these files: their names are sorted, and what each comes down to is found.
+/// The session of these files: their names and their paths are sorted, and what each name comes down to is found.
 fn complete(alloc: Global, files: Vec<SessionFile>) -> Result<Session, LoadError>
     requires sound { AreSound (all_opened files.items) }
     requires few { length files.items ≤ MOST_FILES }
@@ -146,9 +147,11 @@ fn complete(alloc: Global, files: Vec<SessionFile>) -> Result<Session, LoadError
 {
     let index = index_of(alloc, &files)?;
     let basics = all_basics(alloc, &files, &index)?;
+    let paths = path_index_of(alloc, &files)?;
     Ok(Session {
         files,
         index,
         basics,
+        paths,
     })
 }
