@@ -92,6 +92,7 @@ impl<C: Copy + Drop> Rule for VarTypes<C> {
 /// Goes on where each variable of a package has a written type, and else refuses, under the code that is given for
 /// this, at the first name of the first declaration that has none, with the cause that is given. Files are in the order
 /// in which they count.
+#[tactic(auto, using(crate::proofs::VarTypeLaws::walks))]
 pub fn check_var_types<K: Drop, C: Copy + Drop, E>(
     code: K,
     cause: C,
