@@ -27,7 +27,7 @@ use wire_bytes::ByteFault;
 #[derive(Clone, Copy)]
 pub struct SessionEnv<'s> {
     alloc: Global,
-    session: &'s Session,
+    pub session: &'s Session,
 }
 
 impl<'s> SessionEnv<'s> {
