@@ -66,7 +66,8 @@ abbrev mutual
   pub methods_written : Target → Methods → Methods
   methods_written target no_methods = no_methods
   methods_written target (methods origin pos name ins outs variadic rest) =
-      methods (origin_written target origin) (position_written pos) name (params_written target ins) (params_written target outs) variadic (methods_written target rest)
+      methods (origin_written target origin) (position_written pos) name (params_written target ins)
+      (params_written target outs) variadic (methods_written target rest)
 
   pub terms_written : Target → Terms → Terms
   terms_written target no_terms = no_terms
