@@ -9,6 +9,8 @@ ghost use Rattle.std.proofs.Common.{rules};
 use std::alloc::{AllocError, Global};
 use std::cmp::Ordering;
 use std::default::MadeWith;
+use std::fmt;
+use std::fmt::{Debug, Formatter};
 use std::hash::{Hash, Hasher};
 use std::marker::Model;
 use std::sync::ArcSlice;
@@ -17,7 +19,6 @@ use std::sync::ArcSlice;
 const ROOM: usize = 30;
 
 /// Where the bytes of a text are.
-#[derive(Debug)]
 enum Stored {
     /// The first `len` of the room.
     Short { len: u8, room: [u8; ROOM] },
@@ -42,7 +43,7 @@ impl Drop for Stored {
 /// not be UTF-8. A contract sees the list of them. It is compared bytewise, as Go compares strings, and stands
 /// in maps as an owned key. Up to 30 bytes stand in the value itself and take no memory; a longer text is
 /// shared by its clones.
-#[derive(Debug, Drop)]
+#[derive(Drop)]
 pub struct Bytes {
     stored: Stored,
 }
@@ -126,6 +127,15 @@ impl MadeWith<Global> for Bytes {
 
     fn made_with(alloc: Global) -> Bytes {
         Bytes::new(alloc)
+    }
+}
+
+/// Between quotes, with what isn't printable ASCII escaped.
+impl Debug for Bytes {
+    fn fmt<W: fmt::Write>(&self, f: &mut Formatter<W>) -> fmt::Result {
+        f.write_char('"')?;
+        write!(f, "{}", self.as_slice().escape_ascii())?;
+        f.write_char('"')
     }
 }
 
