@@ -4,13 +4,14 @@ use Rattle.std.specs.Option.{option_and_then}
 use Rattle.code_tables.specs.declared.predeclared.Basic.{Basic}
 use Rattle.go_values.specs.declared.qualified.QName.{QName}
 use Rattle.type_terms.specs.Trees.{Tree, predeclared}
-use Rattle.basic_types.specs.BasicTypes.{Entries, head_name, side_behind, itself, ComesDownTo, at_once, onward, IsReached, at_head, further, by_name, comes_down_within}
+use Rattle.type_terms.specs.Names.{basic_of}
+use Rattle.basic_types.specs.BasicTypes.{Entries, head_name, side_behind, ComesDownTo, at_once, onward, IsReached, at_head, further, by_name, comes_down_within}
 
-pub no_itself : (type : Tree) (q : QName) → head_name type ≡ Some q → itself type ≡ None
+pub no_itself : (type : Tree) (q : QName) → head_name type ≡ Some q → basic_of type ≡ None
 no_itself (predeclared basic) q e = absurd cc
 no_itself _ q e = refl
 
-pub is_predeclared : (type : Tree) (basic : Basic) → itself type ≡ Some basic → type ≡ predeclared basic
+pub is_predeclared : (type : Tree) (basic : Basic) → basic_of type ≡ Some basic → type ≡ predeclared basic
 is_predeclared (predeclared own) basic e = cc
 is_predeclared _ basic e = absurd cc
 
@@ -42,7 +43,7 @@ module _ (entries : Entries) where
       ap (by_name entries (comes_down_within entries n) type) head ∙ ap (option_and_then (comes_down_within entries n)) behind
 
   -- there is no name
-  pub by_itself : (n : ℕ) (type : Tree) → head_name type ≡ None → comes_down_within entries n type ≡ itself type
+  pub by_itself : (n : ℕ) (type : Tree) → head_name type ≡ None → comes_down_within entries n type ≡ basic_of type
   unfolding comes_down_within
   by_itself zero type head = refl
   by_itself (suc n) type head = ap (by_name entries (comes_down_within entries n) type) head

@@ -19,7 +19,8 @@ use Rattle.environments.specs.Environments.{Entry, declared, entry_types}
 use Rattle.environments.specs.Kept.{World, Kept, OpensBehind}
 use Rattle.environments.specs.KeptLaws.{kept_again, kept_more, outgrown_before}
 use Rattle.environments.specs.OpenedTypes.{OutgrowsAmong}
-use Rattle.basic_types.specs.BasicTypes.{Entries, head_name, side_behind, itself, ComesDownTo, at_once, onward, IsReached, at_head, further, comes_down_within}
+use Rattle.type_terms.specs.Names.{basic_of}
+use Rattle.basic_types.specs.BasicTypes.{Entries, head_name, side_behind, ComesDownTo, at_once, onward, IsReached, at_head, further, comes_down_within}
 use Rattle.basic_types.specs.Calls.{IsDeclared, AsksHead, OpensOnWay, IsBasicOf, IsLed, Ends, no_name, no_type, again, Stops, Turns}
 use Rattle.basic_types.proofs.BasicLemmas.{no_itself, is_predeclared, no_basic, none_yet, one_more, none_behind, by_itself, more_names, goes_down, reached_by_head, none_reached}
 use Rattle.basic_types.proofs.WayLemmas.{down_found}
@@ -194,15 +195,15 @@ module _ (entries : Entries) (names : List QName) where
 
     no_answer : (arena : Contents) (full : Option Bool) (q : QName) → head_name now ≡ Some q
         → ((n : ℕ) → comes_down_within entries n now ≡ None) → ((q : QName) → IsReached entries now q → IsDeclared (entries q))
-        → IsBasicOf entries start arena full (Ok (itself now))
+        → IsBasicOf entries start arena full (Ok (basic_of now))
     no_answer arena full q head none later =
         subst (λ o. IsBasicOf entries start arena full (Ok o)) (sym (no_itself now q head))
         (none_within none, all_declared later)
 
-    pub ended : (arena : Contents) (full : Option Bool) → Ends entries met now → IsBasicOf entries start arena full (Ok (itself now))
-    ended arena full (no_name head) = go (itself now) refl
+    pub ended : (arena : Contents) (full : Option Bool) → Ends entries met now → IsBasicOf entries start arena full (Ok (basic_of now))
+    ended arena full (no_name head) = go (basic_of now) refl
       where
-        go : (o : Option Basic) → itself now ≡ o → IsBasicOf entries start arena full (Ok o)
+        go : (o : Option Basic) → basic_of now ≡ o → IsBasicOf entries start arena full (Ok o)
         go (Some basic) e = was.up basic (subst (ComesDownTo entries basic) (sym (is_predeclared now basic e)) at_once)
         go None e = (
           none_within (λ n. by_itself entries n now head ∙ e),
@@ -247,10 +248,10 @@ module _ (entries : Entries) (names : List QName) where
       -- the way ends, and what was added since then changes no node
       pub answered : (arena : Contents) (full : Option Bool) (before : Contents) (id : ℕ) → now ≡ tree before.nodes id
           → Extends before arena → id < length before.nodes → Ends later met now → (basic : Option Basic)
-          → basic ≡ itself (tree arena.nodes id) → IsBasicOf entries start arena full (Ok basic)
+          → basic ≡ basic_of (tree arena.nodes id) → IsBasicOf entries start arena full (Ok basic)
       answered arena full before id is grown below ends basic told =
           subst (λ o. IsBasicOf entries start arena full (Ok o))
-          (sym (told ∙ ap itself (extends_tree before arena grown id below ∙ sym is)))
+          (sym (told ∙ ap basic_of (extends_tree before arena grown id below ∙ sym is)))
           (ended arena full (subst (λ e. Ends e met now) stay ends))
 
       -- what the next call opens is behind names on the way

@@ -3,6 +3,7 @@ use Rattle.std.specs.Prelude.{◌≡◌, ℕ, zero, suc, List, length, Option, S
 use Rattle.std.specs.Option.{option_and_then}
 use Rattle.code_tables.specs.declared.predeclared.Basic.{Basic}
 use Rattle.go_values.specs.declared.qualified.QName.{QName}
+use Rattle.type_terms.specs.Names.{basic_of}
 use Rattle.type_terms.specs.Trees.{Tree, predeclared, named, alias, instance}
 use Rattle.type_terms.specs.Declarations.{Form, defined_of, renamed_of}
 use Rattle.environments.specs.Environments.{Entry, declared, damaged}
@@ -34,11 +35,6 @@ side_behind (Some (declared decl)) = side_of decl
 side_behind (Some (damaged fault read)) = None
 side_behind None = None
 
--- the predeclared type that a type is
-abbrev pub itself : Tree → Option Basic
-itself (predeclared basic) = Some basic
-itself _ = None
-
 module _ (entries : Entries) where
   -- A predeclared type is one itself; a name, or an instance of it, comes down to what stands behind the name,
   -- whatever the arguments are.
@@ -57,11 +53,11 @@ module _ (entries : Entries) where
 
   abbrev pub by_name : (Tree → Option Basic) → Tree → Option QName → Option Basic
   by_name next type (Some q) = option_and_then next (side_behind (entries q))
-  by_name next type None = itself type
+  by_name next type None = basic_of type
 
   -- by at most so many names
   unfoldable pub comes_down_within : ℕ → Tree → Option Basic
-  comes_down_within zero type = itself type
+  comes_down_within zero type = basic_of type
   comes_down_within (suc n) type = by_name (comes_down_within n) type (head_name type)
 
   -- A way through more names than there are goes round for ever.

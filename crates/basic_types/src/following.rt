@@ -7,7 +7,7 @@ ghost use Rattle.environments.specs.OpenedTypes.{OutgrowsAmong};
 ghost use Rattle.basic_types.specs.BasicTypes.{IsReached};
 ghost use Rattle.basic_types.specs.Calls.{AsksHead, OpensOnWay, IsBasicOf, GivesSide, Meets, Turns};
 
-use crate::heads::{head_at, predeclared_at, side_of};
+use crate::heads::{head_at, side_of};
 use code_tables::Basic;
 use environments::{Env, EnvError};
 use go_values::QName;
@@ -44,7 +44,7 @@ pub fn basic_type<'a, E: Env<'a>>(
     while let Some(side) = follow(env, arena, &mut met, found)? {
         found = side;
     }
-    Ok(predeclared_at(arena, found))
+    Ok(arena.predeclared(found))
 }
 
 /// What stands behind the name at the head of a type, which comes to those that are met; nothing where the way ends.

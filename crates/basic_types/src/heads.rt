@@ -3,7 +3,7 @@
 ghost use Rattle.std.specs.Prelude.{◌≡◌, ◌<◌, length, IfOk, option_map};
 ghost use Rattle.type_terms.specs.Declarations.{decl_form};
 ghost use Rattle.type_terms.specs.Denotation.{tree};
-ghost use Rattle.basic_types.specs.BasicTypes.{own_name, head_name, side_of, itself};
+ghost use Rattle.basic_types.specs.BasicTypes.{own_name, head_name, side_of};
 
 use code_tables::Basic;
 use go_values::QName;
@@ -71,29 +71,6 @@ fn copied(q: Option<&QName>) -> Result<Option<QName>, AllocError>
     match q {
         Some(q) => Ok(Some(q.clone()?)),
         None => Ok(None),
-    }
-}
-
-/// The predeclared type that a type is.
-pub(crate) fn predeclared_at(arena: &Arena, id: NodeId) -> Option<Basic>
-    requires there { id < length arena.now.nodes }
-    ensures { result ≡ itself (tree arena.now.nodes id) }
-{
-    match arena.node(id) {
-        Node::Predeclared(basic) => Some(*basic),
-        Node::Named(_)
-        | Node::AliasName(_)
-        | Node::Param(_)
-        | Node::Pointer(_)
-        | Node::Slice(_)
-        | Node::Array(_, _)
-        | Node::Chan(_, _)
-        | Node::MapOf(_, _)
-        | Node::FuncOf(_, _)
-        | Node::StructOf(_, _)
-        | Node::Iface(_, _, _)
-        | Node::Instance(_, _)
-        | Node::Union(_) => None,
     }
 }
 

@@ -17,7 +17,8 @@ use Rattle.type_terms.specs.Trees.{Text, Tree, predeclared, Level, tree_of, type
 use Rattle.type_terms.specs.TreeLevels.{types_back, level_of-tree_of}
 use Rattle.type_sets.specs.Interfaces.{set_method, element, interface_of}
 use Rattle.interface_nodes.specs.declared.methods.SetMethod.{SetMethod}
-use Rattle.interface_nodes.specs.HeldNodes.{set_method_of, method_meant, method_nodes, basic_of}
+use Rattle.interface_nodes.specs.HeldNodes.{set_method_of, method_meant, method_nodes}
+use Rattle.type_terms.specs.Names.{basic_of}
 
 -- the methods of a literal's level
 abbrev level_methods : Level → List (MethodOf Pos Text Text Tree)

@@ -33,11 +33,6 @@ error_at string = record {
   sig = record { params = []; results = record { pos = Nowhere; name = []; ty = string } ∷ []; variadic = false };
 }
 
--- the predeclared type that a type is
-abbrev pub basic_of : Tree → Option Basic
-basic_of (predeclared basic) = Some basic
-basic_of _ = None
-
 -- the method and the interface that are meant, where the arena has these nodes
 abbrev pub method_meant : List Node → SetMethod → Method
 method_meant nodes x = record {

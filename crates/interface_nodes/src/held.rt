@@ -8,9 +8,10 @@ ghost use Rattle.type_terms.specs.declared.descriptors.Node.{Node as Descriptor}
 ghost use Rattle.type_terms.specs.Additions.{AddsOnly, Outgrows};
 ghost use Rattle.type_terms.specs.Arenas.{AllBelow, Extends};
 ghost use Rattle.type_terms.specs.Denotation.{tree};
+ghost use Rattle.type_terms.specs.Names.{basic_of};
 ghost use Rattle.type_terms.specs.Trees.{predeclared};
 ghost use Rattle.type_sets.specs.Interfaces.{interface_of, predeclared_interface};
-ghost use Rattle.interface_nodes.specs.HeldNodes.{meant, basic_of, error_at, held_nodes, made_for};
+ghost use Rattle.interface_nodes.specs.HeldNodes.{meant, error_at, held_nodes, made_for};
 
 use crate::methods::{SetMethod, error_method, own_methods};
 use code_tables::Basic;
@@ -37,35 +38,12 @@ pub fn held_at(alloc: Global, arena: &mut Arena, under: NodeId) -> Result<Option
     ensures adds { AddsOnly (made_for (tree arena.old.nodes under)) arena.old arena.new }
     ensures outgrown { IsErrOf result ArenaError.Full → Outgrows arena.old (made_for (tree arena.old.nodes under)) }
 {
-    if let Some(basic) = basic_at(arena, under) {
+    if let Some(basic) = arena.predeclared(under) {
         return predeclared_at(alloc, arena, basic);
     }
     match literal_at(alloc, arena, under) {
         Ok(held) => Ok(held),
         Err(_) => Err(ArenaError::OutOfMemory),
-    }
-}
-
-/// The predeclared type that a type is.
-fn basic_at(arena: &Arena, id: NodeId) -> Option<Basic>
-    requires there { id < length arena.now.nodes }
-    ensures { result ≡ basic_of (tree arena.now.nodes id) }
-{
-    match arena.node(id) {
-        Node::Predeclared(basic) => Some(*basic),
-        Node::Named(_)
-        | Node::Param(_)
-        | Node::AliasName(_)
-        | Node::Pointer(_)
-        | Node::Slice(_)
-        | Node::Array(_, _)
-        | Node::Chan(_, _)
-        | Node::MapOf(_, _)
-        | Node::FuncOf(_, _)
-        | Node::StructOf(_, _)
-        | Node::Iface(_, _, _)
-        | Node::Instance(_, _)
-        | Node::Union(_) => None,
     }
 }
 

@@ -12,7 +12,8 @@ use Rattle.type_terms.specs.Shapes.{retype}
 use Rattle.type_terms.specs.TreeLevels.{types_back}
 use Rattle.type_terms.specs.Trees.{Tree, named, alias, instance, types_of, tree_of}
 use Rattle.replacement.specs.Expansion.{alias_use, defined_use}
-use Rattle.replacement.specs.Calls.{alias_name, defined_name, applied}
+use Rattle.replacement.specs.Calls.{applied}
+use Rattle.type_terms.specs.Names.{alias_name, defined_name}
 
 pub ok_weaker : {X E : Type 0} (P Q : X → Type 0) (r : Result X E) → ((x : X) → P x → Q x) → IfOk r P → IfOk r Q
 ok_weaker P Q (Ok x) step holds = step x holds

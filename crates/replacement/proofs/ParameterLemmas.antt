@@ -22,7 +22,8 @@ use Rattle.type_terms.specs.Trees.{Tree, parameter}
 use Rattle.replacement.specs.declared.faults.SetFault.{SetFault}
 use Rattle.replacement.specs.Expansion.{Entries, Applied, known, then, parameter_names, put_each, wrong_number}
 use Rattle.replacement.specs.Substitution.{substituted}
-use Rattle.replacement.specs.Calls.{parameter_name, applied}
+use Rattle.replacement.specs.Calls.{applied}
+use Rattle.type_terms.specs.Names.{parameter_name}
 
 take_next : {X : Type 0} (xs : List X) (k : ℕ) (x : X) → slice_get xs k ≡ Some x → take (suc k) xs ≡ take k xs ++ x ∷ []
 take_next [] k x is = absurd cc

@@ -9,7 +9,7 @@ use Rattle.environments.specs.declared.given.Given.{Given}
 use Rattle.environments.specs.Environments.{Entry, entry_types, given_decl}
 use Rattle.environments.specs.OpenedTypes.{AddsAmong, OutgrowsAmong}
 use Rattle.type_terms.specs.declared.descriptors.Node.{Node}
-use Rattle.type_terms.specs.Trees.{Tree, named, parameter, alias}
+use Rattle.type_terms.specs.Trees.{Tree}
 use Rattle.type_terms.specs.TreeEquality.{same_name}
 use Rattle.type_terms.specs.Arenas.{Contents, AllBelow}
 use Rattle.type_terms.specs.Declarations.{Decl, decl_nodes, decl_of}
@@ -53,21 +53,6 @@ GivesDecl opens before after full (Err fault) want = Stops opens before full fau
 -- side
 abbrev pub OpensSide : Option Entry → Result Tree SetFault → Tree → Type 0
 OpensSide entry side type = Contains (entry_types entry) type ⊎ (side ≡ Ok type)
-
--- the alias that a type is
-abbrev pub alias_name : Tree → Option QName
-alias_name (alias q) = Some q
-alias_name _ = None
-
--- the defined type that a type is
-abbrev pub defined_name : Tree → Option QName
-defined_name (named q) = Some q
-defined_name _ = None
-
--- the type parameter that a type is
-abbrev pub parameter_name : Tree → Option QName
-parameter_name (parameter q) = Some q
-parameter_name _ = None
 
 -- a name applied to nodes
 abbrev pub applied : List Node → QName → List ℕ → Applied

@@ -10,8 +10,8 @@ ghost use Rattle.type_terms.specs.Denotation.{tree};
 ghost use Rattle.replacement.specs.Expansion.{Applied, known, alias_use, parameter_names, capped, put_each};
 ghost use Rattle.replacement.specs.Expansion.{alias_right, expanded};
 ghost use Rattle.environments.specs.Kept.{world, Kept};
-ghost use Rattle.replacement.specs.Calls.{Gives, GivesDecl, GivesSide, AddsSide, alias_name};
-ghost use Rattle.replacement.specs.Calls.{parameter_name, applied, Meets, AsksAlias, OpensAlias, OpensSide, Leads};
+ghost use Rattle.replacement.specs.Calls.{Gives, GivesDecl, GivesSide, AddsSide};
+ghost use Rattle.replacement.specs.Calls.{applied, Meets, AsksAlias, OpensAlias, OpensSide, Leads};
 ghost use Rattle.replacement.specs.Calls.{AsksExpanding, OpensExpanding};
 
 use crate::faults::SetFault;
@@ -108,9 +108,9 @@ fn alias_at_head(alloc: Global, arena: &Arena, id: NodeId) -> Result<Option<Head
     ensures args { IfOk result (λ used. IfSome used (λ head. AllBelow (length arena.now.nodes) head.args.items)) }
 {
     if let Node::Instance(base, args) = arena.node(id) {
-        return with_args(alloc, alias_at(arena, *base), args.items());
+        return with_args(alloc, arena.alias_name(*base), args.items());
     }
-    with_args(alloc, alias_at(arena, id), &[])
+    with_args(alloc, arena.alias_name(id), &[])
 }
 
 /// A name, where there is one, with arguments.
@@ -130,29 +130,6 @@ pub(crate) fn with_args(
     let name = q.clone()?;
     let args = Vec::from_slice(alloc, args)?;
     Ok(Some(Head { name, args }))
-}
-
-/// The alias that a type is.
-fn alias_at(arena: &Arena, id: NodeId) -> Option<&QName>
-    requires there { id < length arena.now.nodes }
-    ensures { alias_name (tree arena.now.nodes id) ≡ option_map (λ q. q.now) result }
-{
-    match arena.node(id) {
-        Node::AliasName(q) => Some(q),
-        Node::Predeclared(_)
-        | Node::Named(_)
-        | Node::Param(_)
-        | Node::Pointer(_)
-        | Node::Slice(_)
-        | Node::Array(_, _)
-        | Node::Chan(_, _)
-        | Node::MapOf(_, _)
-        | Node::FuncOf(_, _)
-        | Node::StructOf(_, _)
-        | Node::Iface(_, _, _)
-        | Node::Instance(_, _)
-        | Node::Union(_) => None,
-    }
 }
 
 /// The right side of an alias with the arguments put in.
@@ -256,34 +233,11 @@ fn names_of(alloc: Global, arena: &Arena, tparams: &[NodeId]) -> Result<Vec<QNam
 {
     let mut names = Vec::new(alloc);
     for id in tparams {
-        if let Some(q) = parameter_at(arena, *id) {
+        if let Some(q) = arena.parameter_name(*id) {
             names.push(q.clone()?)?;
         }
     }
     Ok(names)
-}
-
-/// The type parameter that a type is.
-fn parameter_at(arena: &Arena, id: NodeId) -> Option<&QName>
-    requires there { id < length arena.now.nodes }
-    ensures { parameter_name (tree arena.now.nodes id) ≡ option_map (λ q. q.now) result }
-{
-    match arena.node(id) {
-        Node::Param(q) => Some(q),
-        Node::Predeclared(_)
-        | Node::Named(_)
-        | Node::AliasName(_)
-        | Node::Pointer(_)
-        | Node::Slice(_)
-        | Node::Array(_, _)
-        | Node::Chan(_, _)
-        | Node::MapOf(_, _)
-        | Node::FuncOf(_, _)
-        | Node::StructOf(_, _)
-        | Node::Iface(_, _, _)
-        | Node::Instance(_, _)
-        | Node::Union(_) => None,
-    }
 }
 
 /// That the name's declaration is of another kind, or that there was no memory to say so.

@@ -5,7 +5,7 @@ ghost use Rattle.type_terms.specs.Arenas.{AllBelow};
 ghost use Rattle.type_terms.specs.Denotation.{tree};
 ghost use Rattle.replacement.specs.Expansion.{defined_use, defined_right, beneath, underlying};
 ghost use Rattle.environments.specs.Kept.{world, Kept};
-ghost use Rattle.replacement.specs.Calls.{Gives, defined_name, applied, OpensSide};
+ghost use Rattle.replacement.specs.Calls.{Gives, applied, OpensSide};
 ghost use Rattle.replacement.specs.Calls.{AsksDefined, OpensDefined, AsksUnder, OpensUnder};
 
 use crate::expanding::{Head, expand, given_for, put_in, with_args, wrong_kind};
@@ -78,9 +78,9 @@ pub fn defined_name(arena: &Arena, id: NodeId) -> Option<&QName>
     ensures { option_map (λ head. head.name) (defined_use (tree arena.now.nodes id)) ≡ option_map (λ q. q.now) result }
 {
     if let Node::Instance(base, _) = arena.node(id) {
-        return defined_at(arena, *base);
+        return arena.defined_name(*base);
     }
-    defined_at(arena, id)
+    arena.defined_name(id)
 }
 
 /// The defined type at the head of a type, with its arguments.
@@ -91,32 +91,9 @@ fn defined_at_head(alloc: Global, arena: &Arena, id: NodeId) -> Result<Option<He
     ensures args { IfOk result (λ used. IfSome used (λ head. AllBelow (length arena.now.nodes) head.args.items)) }
 {
     if let Node::Instance(base, args) = arena.node(id) {
-        return with_args(alloc, defined_at(arena, *base), args.items());
+        return with_args(alloc, arena.defined_name(*base), args.items());
     }
-    with_args(alloc, defined_at(arena, id), &[])
-}
-
-/// The defined type that a type is.
-fn defined_at(arena: &Arena, id: NodeId) -> Option<&QName>
-    requires there { id < length arena.now.nodes }
-    ensures { defined_name (tree arena.now.nodes id) ≡ option_map (λ q. q.now) result }
-{
-    match arena.node(id) {
-        Node::Named(q) => Some(q),
-        Node::Predeclared(_)
-        | Node::AliasName(_)
-        | Node::Param(_)
-        | Node::Pointer(_)
-        | Node::Slice(_)
-        | Node::Array(_, _)
-        | Node::Chan(_, _)
-        | Node::MapOf(_, _)
-        | Node::FuncOf(_, _)
-        | Node::StructOf(_, _)
-        | Node::Iface(_, _, _)
-        | Node::Instance(_, _)
-        | Node::Union(_) => None,
-    }
+    with_args(alloc, arena.defined_name(id), &[])
 }
 
 /// The right side of a defined type with the arguments put in.

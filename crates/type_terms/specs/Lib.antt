@@ -9,6 +9,7 @@ pub mod TreeSizes
 pub mod TreeEquality
 pub mod NodeShapes
 pub mod NodesBack
+pub mod Names
 pub mod Denotation
 pub mod Arenas
 pub mod Denoted

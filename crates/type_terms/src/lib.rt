@@ -7,6 +7,7 @@ mod descriptors;
 mod laws;
 mod lists;
 mod literals;
+mod names;
 mod node_numbers;
 mod parts;
 mod shared_nodes;

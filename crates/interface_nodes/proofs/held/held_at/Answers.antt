@@ -1,7 +1,8 @@
 use Rattle.std.proofs.Common.{rules, ◌≡◌, Some, sym, subst}
 use Rattle.type_terms.specs.Additions.{AddsOnly}
 use Rattle.type_terms.specs.Denotation.{tree}
-use Rattle.interface_nodes.specs.HeldNodes.{basic_of, made_for}
+use Rattle.interface_nodes.specs.HeldNodes.{made_for}
+use Rattle.type_terms.specs.Names.{basic_of}
 use Rattle.interface_nodes.proofs.HeldLemmas.{basic_told}
 use Rattle.interface_nodes.proofs.held.held_at.Goals as goal
 

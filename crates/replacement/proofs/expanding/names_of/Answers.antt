@@ -3,7 +3,7 @@ use Rattle.std.proofs.lemmas.Option.{slice_get_read}
 use Rattle.std.specs.Prelude.{option_map}
 use Rattle.std.proofs.lemmas.List.{append-nil}
 use Rattle.type_terms.specs.Denotation.{tree}
-use Rattle.replacement.specs.Calls.{parameter_name}
+use Rattle.type_terms.specs.Names.{parameter_name}
 use Rattle.replacement.proofs.ParameterLemmas.{names_next}
 use Rattle.replacement.proofs.expanding.names_of.Goals as goal
 use Rattle.replacement.proofs.expanding.names_of.Goals.{in-Some+in_ok-clone+in_ok-push, in_default}
@@ -13,9 +13,9 @@ loop-id-preserved c =
     let ids = c.args.tparams.now in
     let nodes = c.args.arena.now.nodes in
     let at : slice_get ids c.loop-id.id-index ≡ Some c.id-item.result = slice_get_read ids (length ids) c.loop-id.id-index c.id-item.result refl c.loop-id-test.true c.id-item.is in
-    elim c.match-parameter_at.branch [
+    elim c.match-parameter_name.branch [
       | in-Some+in_ok-clone+in_ok-push w ↦
-          let is : parameter_name (tree nodes c.id-item.result) ≡ Some w.in-Some.q.now = c.parameter_at.ensures ∙ ap (option_map (λ q. q.now)) w.in-Some.is in
+          let is : parameter_name (tree nodes c.id-item.result) ≡ Some w.in-Some.q.now = c.parameter_name.ensures ∙ ap (option_map (λ q. q.now)) w.in-Some.is in
           let name : w.in_ok-clone.field-0 ≡ w.in-Some.q.now = search rules in
           ap (λ v. v.items) w.names-is ∙ w.in_ok-push.ensures.items ∙ (λ i. c.loop-id.invariant i ++ name i ∷ [])
           ∙ sym (names_next nodes ids c.loop-id.id-index c.id-item.result (Some w.in-Some.q.now) at is)
