@@ -56,7 +56,7 @@ returns-clause-answer g c =
     let does = c.in_ok-side.ensures in
     let none : c.in_ok-side.field-0 ≡ None = search rules in
     let leads = subst (λ o. Turns (g.E.Env.entries at.env at.arena.nodes) at.met.keys (tree at.arena.nodes at.found) c.follow.new.met.keys c.follow.new.arena (g.E.Env.full c.follow.new.env) (Ok o)) none does.turns in
-    answered _ _ _ _ _ is.0 _ is.1.entries c.follow.new.arena (g.E.Env.full c.follow.new.env) at.arena at.found refl does.kept.extends is.3 leads _ c.predeclared_at.ensures
+    answered _ _ _ _ _ is.0 _ is.1.entries c.follow.new.arena (g.E.Env.full c.follow.new.env) at.arena at.found refl does.kept.extends is.3 leads _ c.predeclared.ensures
 
 pub returns-clause-kept : goal.returns-clause-kept
 returns-clause-kept g c =
