@@ -11,7 +11,7 @@ returns-in-Instance-clause-head c =
     let nodes = c.args.arena.now.nodes in
     let node : c.node.result.now ≡ Instance c.in-Instance.base c.items.result.now = search rules in
     let whole = instance_alias nodes c.args.id c.node.result.now c.node.ensures.denotes c.in-Instance.base c.items.result.now node
-    ∙ ap (option_map (λ q. applied nodes q c.items.result.now)) c.alias_name.ensures
+    ∙ ap (option_map (λ q. applied nodes q c.items.result.now)) (sym c.alias_name.ensures)
     ∙ maps_join (λ q. q.now) (λ q. applied nodes q c.items.result.now) c.alias_name.result in
     ok_weaker _ _ c.with_args.result (λ used same. whole ∙ sym same) (c.with_args.ensures.head nodes)
 
@@ -27,7 +27,7 @@ returns c =
     let nodes = c.args.arena.now.nodes in
     let bound = length nodes in
     let whole = other_alias nodes c.args.id c.node.result.now c.node.ensures.denotes c.in_default.not-Instance
-    ∙ ap (option_map (λ q. applied nodes q [])) c.alias_name-2.ensures
+    ∙ ap (option_map (λ q. applied nodes q [])) (sym c.alias_name-2.ensures)
     ∙ maps_join (λ q. q.now) (λ q. applied nodes q []) c.alias_name-2.result in
     record {
       head = ok_weaker _ _ c.with_args-2.result (λ used same. whole ∙ sym same) (c.with_args-2.ensures.head nodes);

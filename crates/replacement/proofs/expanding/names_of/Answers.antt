@@ -15,7 +15,7 @@ loop-id-preserved c =
     let at : slice_get ids c.loop-id.id-index ≡ Some c.id-item.result = slice_get_read ids (length ids) c.loop-id.id-index c.id-item.result refl c.loop-id-test.true c.id-item.is in
     elim c.match-parameter_name.branch [
       | in-Some+in_ok-clone+in_ok-push w ↦
-          let is : parameter_name (tree nodes c.id-item.result) ≡ Some w.in-Some.q.now = c.parameter_name.ensures ∙ ap (option_map (λ q. q.now)) w.in-Some.is in
+          let is : parameter_name (tree nodes c.id-item.result) ≡ Some w.in-Some.q.now = sym c.parameter_name.ensures ∙ ap (option_map (λ q. q.now)) w.in-Some.is in
           let name : w.in_ok-clone.field-0 ≡ w.in-Some.q.now = search rules in
           ap (λ v. v.items) w.names-is ∙ w.in_ok-push.ensures.items ∙ (λ i. c.loop-id.invariant i ++ name i ∷ [])
           ∙ sym (names_next nodes ids c.loop-id.id-index c.id-item.result (Some w.in-Some.q.now) at is)
