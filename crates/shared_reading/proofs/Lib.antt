@@ -1,0 +1,6 @@
+pub mod MemoryLemmas
+pub mod WholeReads
+pub mod Agreement
+pub mod SharedReads
+pub mod StretchSums
+pub mod TurnCounts

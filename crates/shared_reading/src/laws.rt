@@ -1,0 +1,47 @@
+//! Laws of reading with a memory, each the contract of a function that does nothing.
+
+ghost use Rattle.std.specs.Prelude.{◌≡◌, ◌≤◌, ℕ, List, [], length, map, Ok};
+ghost use Rattle.decl_spelling.specs.Sections.{Sections, Basics, HoldsBytes};
+ghost use Rattle.decl_spelling.specs.Tables.{Table};
+ghost use Rattle.decl_spelling.specs.KnownTypes.{Kept};
+ghost use Rattle.decl_spelling.specs.Declarations.{Read, read_at, decl_of, spelled_of, decl_at};
+ghost use Rattle.shared_reading.specs.Memory.{IsMemory, Overlaps, Joins};
+ghost use Rattle.shared_reading.specs.WithMemory.{read_with, shared_at, widened};
+ghost use Rattle.shared_reading.specs.Counted.{bytes_in, read_in_turn, LieApart};
+
+/// A declaration that is read with a memory of its file is what it is by itself, or has the same first fault. What is
+/// remembered then is a memory of the file again, and has all that was remembered before. A memory may begin with
+/// nothing.
+pub fn shared_declarations()
+    ensures nothing { (src : Sections) → IsMemory src [] }
+    ensures plain { (src : Sections) (basics : Basics) → HoldsBytes src → (memory : Table) → IsMemory src memory
+        → (offset : ℕ) → shared_at src basics memory offset ≡ decl_at src basics offset }
+    ensures keeps { (src : Sections) (basics : Basics) → HoldsBytes src → (memory : Table) → IsMemory src memory
+        → (offset : ℕ) → IsMemory src (widened src basics memory offset) }
+    ensures grows { (src : Sections) (basics : Basics) → HoldsBytes src → (memory : Table) → IsMemory src memory
+        → (offset : ℕ) → Kept memory (widened src basics memory offset) }
+{}
+
+/// With a memory all is read exactly where it is read by itself, and no descriptor of the declaration overlaps one that
+/// is remembered. What is remembered then are the descriptors of both.
+pub fn apart_from_memory()
+    ensures apart { (src : Sections) (basics : Basics) → HoldsBytes src → (memory : Table) → IsMemory src memory
+        → (offset : ℕ) (read : Read) → read_with src basics memory offset ≡ Ok read
+        → (alone : Read) × (read_at src basics offset ≡ Ok alone) × (decl_of src alone ≡ decl_of src read)
+        × (spelled_of alone ≡ spelled_of read) × (alone.end ≡ read.end) × Joins memory alone.table read.table
+        × (Overlaps alone.table memory → ⊥) }
+    ensures shared { (src : Sections) (basics : Basics) → HoldsBytes src → (memory : Table) → IsMemory src memory
+        → (offset : ℕ) (alone : Read) → read_at src basics offset ≡ Ok alone
+        → (Overlaps alone.table memory → ⊥) → (read : Read) × (read_with src basics memory offset ≡ Ok read) }
+{}
+
+/// What is remembered has at most as many bytes as the data section. Where the descriptors of declarations lie apart,
+/// all of these are read in turn, and the steps come to at most the length of the data section.
+pub fn counted_once()
+    ensures descriptors { (src : Sections) (memory : Table) → IsMemory src memory
+        → bytes_in memory ≤ length src.body }
+    ensures all { (src : Sections) (basics : Basics) → HoldsBytes src → (decls : List (ℕ × Read))
+        → LieApart src basics decls
+        → (last : Table) × (steps : ℕ) × (read_in_turn src basics [] (map (λ decl. decl.0) decls) ≡ Ok (last, steps))
+        × (steps ≤ length src.body) }
+{}
