@@ -1,0 +1,3 @@
+mod StepLemmas
+mod IdentityLemmas
+mod SwapLemmas

@@ -1,0 +1,5 @@
+pub mod Sides
+pub mod Demands
+pub mod Sets
+pub mod Identity
+pub mod Comparing
