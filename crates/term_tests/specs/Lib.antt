@@ -1,0 +1,3 @@
+pub mod Aliases
+pub mod Mentions
+pub mod Walks
