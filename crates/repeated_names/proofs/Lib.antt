@@ -1,0 +1,3 @@
+pub mod FirstLaws
+pub mod ScanLaws
+pub mod RepeatLaws

@@ -1,0 +1,4 @@
+pub mod Names
+pub mod Firsts
+pub mod Repeats
+pub mod Tables
