@@ -1,5 +1,5 @@
 //! Adds many nodes to an arena, or as many numbers to the kit's index map, so that a script can time one against the
-//! other. The words are `nodes` or `numbers`, and how many.
+//! other. The words are `nodes` or `numbers`, and how many; or `arrays`, and the lengths of the arrays that are added.
 #![tactic(auto)]
 
 ghost use Rattle.std.specs.Prelude.{◌<◌, length};
@@ -21,17 +21,22 @@ fn main(rt: HostRuntime) {
     let Ok(words) = args.skip(1).collect::<Vec<String>>(alloc) else {
         return;
     };
-    let [what, count] = words.as_slice() else {
-        return;
-    };
-    let Ok(count) = count.as_str().parse::<u32>() else {
+    let [what, rest @ ..] = words.as_slice() else {
         return;
     };
     let added = match what.as_str() {
-        "nodes" => nodes(alloc, count),
-        _ => numbers(alloc, count),
+        "nodes" => nodes(alloc, count_of(rest)),
+        "arrays" => arrays(alloc, rest),
+        _ => numbers(alloc, count_of(rest)),
     };
     let _ = println!(rt; "{added}");
+}
+
+fn count_of(words: &[String]) -> u32 {
+    match words.first() {
+        Some(word) => word.as_str().parse::<u32>().unwrap_or(0),
+        None => 0,
+    }
 }
 
 // How many nodes an arena has after a chain of pointers of this length was added to it.
@@ -47,6 +52,23 @@ fn chain(arena: &mut Arena, count: u32) -> Result<NodeId, ArenaError> {
         last = arena.add(Node::Pointer(last))?;
     }
     Ok(last)
+}
+
+// How many nodes an arena has after arrays of these lengths were added to it.
+fn arrays(alloc: Global, lengths: &[String]) -> u64 {
+    let mut arena = Arena::new(alloc, LIMIT);
+    let _ = add_arrays(&mut arena, lengths);
+    u64::from(arena.len())
+}
+
+fn add_arrays(arena: &mut Arena, lengths: &[String]) -> Result<(), ArenaError> {
+    let element = arena.add(Node::Predeclared(Basic::Int))?;
+    for length in lengths {
+        if let Ok(length) = length.as_str().parse::<u64>() {
+            arena.add(Node::Array(length, element))?;
+        }
+    }
+    Ok(())
 }
 
 // How many numbers a map has after as many were put into it.
