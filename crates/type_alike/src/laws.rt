@@ -10,8 +10,8 @@ ghost use Rattle.type_alike.specs.Identity.{Id, Identical};
 ghost use Rattle.type_alike.specs.Comparing.{compared};
 
 /// The comparison decides identity. Where it ends by itself, the types of each pair at which it began are identical.
-/// Where it stops since a demand isn't met, those of one of them aren't, down to the depth that it names; where it stops
-/// at a fault, down to some depth.
+/// Where it stops since a demand isn't met, those of one of them aren't, down to the depth that it names; where it
+/// stops at a fault, down to some depth.
 pub fn comparing_decides_identity()
     ensures same { (sides : Sides) (starts : List Pair) → (compared sides starts).end ≡ by_itself
         → AllByRecursion (λ p. Identical sides p.left p.right) starts }

@@ -1,5 +1,5 @@
-//! Identity of types, read by one environment or by two: definitions over their entries, with laws, each the contract of
-//! a function that does nothing.
+//! Identity of types, read by one environment or by two: definitions over their entries, with laws, each the contract
+//! of a function that does nothing.
 #![tactic(auto)]
 
 mod laws;
