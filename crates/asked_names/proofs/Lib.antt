@@ -1,0 +1,3 @@
+mod FindingLemmas
+pub mod CountingLemmas
+pub mod CountLaws
