@@ -4,3 +4,4 @@ pub mod Agreement
 pub mod SharedReads
 pub mod StretchSums
 pub mod TurnCounts
+pub mod TwoTables

@@ -32,6 +32,9 @@ all_above : (t : Table) → AllByRecursion (λ e. 0 ≤ e.0) t
 all_above [] = tt
 all_above (e ∷ es) = (omega arith, all_above es)
 
+pub in_order_rises : (t : Table) → InOrder t → Rising 0 t
+in_order_rises t order = rising_from 0 t (all_above t) order
+
 pub fine_memory : (src : Sections) (memory : Table) → IsMemory src memory → Fine src memory
 fine_memory src memory is = record { rising = rising_from 0 memory (all_above memory) is.in_order; sound = is.sound }
 

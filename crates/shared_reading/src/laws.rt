@@ -1,11 +1,12 @@
 //! Laws of reading with a memory, each the contract of a function that does nothing.
 
-ghost use Rattle.std.specs.Prelude.{◌≡◌, ◌≤◌, ℕ, List, [], length, map, Ok};
+ghost use Rattle.std.specs.Prelude.{◌≡◌, ◌≤◌, ℕ, List, [], length, map, min, None, Ok};
+ghost use Rattle.std.specs.Option.{option_or};
 ghost use Rattle.decl_spelling.specs.Sections.{Sections, Basics, HoldsBytes};
-ghost use Rattle.decl_spelling.specs.Tables.{Table};
+ghost use Rattle.decl_spelling.specs.Tables.{Finished, Table, at, with_block, free_to};
 ghost use Rattle.decl_spelling.specs.KnownTypes.{Kept};
 ghost use Rattle.decl_spelling.specs.Declarations.{Read, read_at, decl_of, spelled_of, decl_at};
-ghost use Rattle.shared_reading.specs.Memory.{IsMemory, Overlaps, Joins};
+ghost use Rattle.shared_reading.specs.Memory.{InOrder, IsMemory, Overlaps, Joins};
 ghost use Rattle.shared_reading.specs.WithMemory.{read_with, shared_at, widened};
 ghost use Rattle.shared_reading.specs.Counted.{bytes_in, read_in_turn, LieApart};
 
@@ -44,4 +45,18 @@ pub fn counted_once()
         → LieApart src basics decls
         → (last : Table) × (steps : ℕ) × (read_in_turn src basics [] (map (λ decl. decl.0) decls) ≡ Ok (last, steps))
         × (steps ≤ length src.body) }
+{}
+
+/// What is known by two tables together is found in one of them, and is free where both are. So it is as descriptors
+/// join the second.
+pub fn two_tables()
+    ensures begins { (some : Table) → Joins some [] some }
+    ensures goes_on { (some others all : Table) → InOrder others → InOrder all → Joins some others all
+        → (offset : ℕ) (finished : Finished) → at all offset ≡ None
+        → Joins some (with_block others offset finished) (with_block all offset finished) }
+    ensures found { (some others all : Table) → InOrder some → InOrder others → InOrder all → Joins some others all
+        → (offset : ℕ) → at all offset ≡ option_or (at some offset) (at others offset) }
+    ensures free { (some others all : Table) → InOrder some → InOrder others → InOrder all → Joins some others all
+        → (offset limit : ℕ) → offset ≤ limit
+        → free_to offset limit all ≡ min (free_to offset limit some) (free_to offset limit others) }
 {}

@@ -4,4 +4,4 @@
 
 mod laws;
 
-pub use laws::{apart_from_memory, counted_once, shared_declarations};
+pub use laws::{apart_from_memory, counted_once, shared_declarations, two_tables};
