@@ -11,3 +11,4 @@ pub mod PartStays
 pub mod DeclStays
 pub mod DeclInside
 pub mod DeclLocality
+pub mod EarlyEnds

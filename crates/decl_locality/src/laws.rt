@@ -1,15 +1,16 @@
 //! Laws of the readers of declarations, each the contract of a function that does nothing.
 
-ghost use Rattle.std.specs.Prelude.{◌≡◌, ◌+◌, ℕ, List, length, false, Ok};
+ghost use Rattle.std.specs.Prelude.{◌≡◌, ◌+◌, ◌≤◌, ℕ, List, length, false, Ok};
 ghost use Rattle.wire_bytes.specs.declared.fault.ByteFault.{ByteFault};
 ghost use Rattle.wire_bytes.specs.declared.fault.ByteFault.TheVariants.{Ended};
 ghost use Rattle.wire_bytes.specs.Local.{is_ended, AreBytes, IsAmong};
 ghost use Rattle.type_terms.specs.Declarations.{Decl};
 ghost use Rattle.decl_spelling.specs.Constants.{Spelling, value_at};
 ghost use Rattle.decl_spelling.specs.Declarations.{head_at, receiver_at, decl_at, FirstFault};
-ghost use Rattle.decl_spelling.specs.Descriptors.{flat_at};
-ghost use Rattle.decl_spelling.specs.Reading.{list_at};
-ghost use Rattle.decl_spelling.specs.Sections.{Sections, Basics};
+ghost use Rattle.decl_spelling.specs.Descriptors.{Flat, flat_at};
+ghost use Rattle.decl_spelling.specs.Descent.{offset_of};
+ghost use Rattle.decl_spelling.specs.Reading.{Ahead, start, list_at};
+ghost use Rattle.decl_spelling.specs.Sections.{Sections, Basics, HoldsBytes, window};
 ghost use Rattle.decl_locality.specs.LocalReaders.{IsLocal};
 ghost use Rattle.decl_locality.specs.LongerFiles.{with_behind};
 
@@ -41,4 +42,14 @@ pub fn declarations_are_local()
     ensures goes_on { (src : Sections) (basics : Basics) (offset at : ℕ) → FirstFault src basics offset (Ended at)
         → (more : List ℕ) × AreBytes more
         × ((at : ℕ) → FirstFault (with_behind src more) basics offset (Ended at) → ⊥) }
+{}
+
+/// A descriptor that is read up to a limit, and ends at or before an earlier stop, is read alike up to that stop: with
+/// the same parts and the same end, and it names the same types.
+pub fn descriptors_end_early()
+    ensures { (src : Sections) → HoldsBytes src → (offset stop limit : ℕ) → stop ≤ limit → limit ≤ length src.body
+        → (flat : Flat) (a : Ahead) → flat_at src (start (window src offset limit)) ≡ Ok (flat, a)
+        → offset_of src a ≤ stop
+        → (b : Ahead) × (flat_at src (start (window src offset stop)) ≡ Ok (flat, b)) × (b.mentions ≡ a.mentions)
+        × (offset_of src b ≡ offset_of src a) }
 {}

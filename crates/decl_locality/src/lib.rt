@@ -3,4 +3,4 @@
 
 mod laws;
 
-pub use laws::{blocks_are_local, declarations_are_local};
+pub use laws::{blocks_are_local, declarations_are_local, descriptors_end_early};
