@@ -56,7 +56,7 @@ before_start : (n : ℕ) (s : Stretch) → n ≤ s.start → before n s ≡ 0
 before_start zero s le = refl
 before_start (suc n) s le = omega (arith, before_start n s (omega arith), has_none_before n s (omega arith))
 
-le_or : (a b : ℕ) → (a ≤ b) ⊎ (b < a)
+pub le_or : (a b : ℕ) → (a ≤ b) ⊎ (b < a)
 le_or a b = by (nat_le a b) refl
   where
     by : (c : Bool) → nat_le a b ≡ c → (a ≤ b) ⊎ (b < a)
@@ -104,7 +104,7 @@ pub sum_two : (n : ℕ) (xs : List Stretch) → sum_by (before (suc n)) xs ≡ s
 sum_two n [] = refl
 sum_two n (x ∷ xs) = omega (arith, sum_by-cons (before (suc n)) x xs, sum_by-cons (before n) x xs, sum_by-cons (has_byte n) x xs, sum_two n xs)
 
-sum_none : (xs : List Stretch) → sum_by (before 0) xs ≡ 0
+pub sum_none : (xs : List Stretch) → sum_by (before 0) xs ≡ 0
 sum_none [] = refl
 sum_none (x ∷ xs) = omega (arith, sum_by-cons (before 0) x xs, sum_none xs)
 
@@ -138,7 +138,7 @@ few_bytes n xs away ends = omega (arith, sum_all n xs ends, few_before n xs away
 
 -- ---- some of them have fewer
 
-some_has : (n : ℕ) (xs : List Stretch) → (sum_by (has_byte n) xs ≡ 0) ⊎ ((s : Stretch) × Contains xs s × (has_byte n s ≡ 1))
+pub some_has : (n : ℕ) (xs : List Stretch) → (sum_by (has_byte n) xs ≡ 0) ⊎ ((s : Stretch) × Contains xs s × (has_byte n s ≡ 1))
 some_has n [] = inl refl
 some_has n (x ∷ xs) =
     elim (has_at_most n x) [
@@ -149,7 +149,7 @@ some_has n (x ∷ xs) =
       | inr one ↦ inr (x, first_has x xs, one.0)
     ]
 
-sum_has : (n : ℕ) (xs : List Stretch) (s : Stretch) → Contains xs s → has_byte n s ≡ 1 → 1 ≤ sum_by (has_byte n) xs
+pub sum_has : (n : ℕ) (xs : List Stretch) (s : Stretch) → Contains xs s → has_byte n s ≡ 1 → 1 ≤ sum_by (has_byte n) xs
 sum_has n [] s has one = absurd (has_none s has)
 sum_has n (x ∷ xs) s has one =
     elim (has_where x s xs has) [

@@ -1,5 +1,5 @@
 -- What reading declarations in turn comes to.
-use Rattle.std.proofs.Common.{◌≡◌, ℕ, ◌+◌, ◌-◌, ◌<◌, ◌≤◌, ◌⊎◌, inl, inr, List, [], ◌∷◌, ◌++◌, length, map, Contains, Ok, refl, ap, subst, arith}
+use Rattle.std.proofs.Common.{◌∙◌, ◌≡◌, ℕ, zero, suc, ◌+◌, ◌-◌, ◌<◌, ◌≤◌, ◌⊎◌, inl, inr, List, [], ◌∷◌, ◌++◌, length, map, Contains, Ok, refl, ap, subst, arith}
 use Rattle.std.specs.List.{AllByRecursion, sum_by}
 use Rattle.std.proofs.lemmas.List.Sums.{sum_by-cons, sum_by-append}
 use Rattle.wire_bytes.specs.Reading.{◌>>=◌}
@@ -7,7 +7,8 @@ use Rattle.decl_spelling.specs.Sections.{Sections, Basics, HoldsBytes}
 use Rattle.decl_spelling.specs.Tables.{Finished, Table}
 use Rattle.decl_spelling.specs.Declarations.{Read, read_at}
 use Rattle.decl_spelling.specs.Spelling.{Block, Apart}
-use Rattle.decl_spelling.proofs.TableLaws.{has_none, first_has, later_has}
+use Rattle.decl_spelling.proofs.TableLaws.{finished_of, block_found, found_block, has_none, first_has, later_has}
+use Rattle.decl_spelling.proofs.TypeTakes.{Added}
 use Rattle.decl_spelling.proofs.DeclTakes.{fine_none}
 use Rattle.decl_spelling.proofs.DeclAgain.{next_done}
 use Rattle.decl_spelling.proofs.DeclAtLaws.{strings_are, body_is}
@@ -15,9 +16,9 @@ use Rattle.shared_reading.specs.Memory.{block_of, blocks_in, InOrder, IsMemory, 
 use Rattle.shared_reading.specs.WithMemory.{read_with}
 use Rattle.shared_reading.specs.Counted.{Stretch, byte_count, Away, stretch_of, bytes_in, own_stretch, steps_of, read_in_turn, AllAway, LieApart}
 use Rattle.shared_reading.proofs.MemoryLemmas.{fine_memory, memory_fine, no_memory, kept_blocks}
-use Rattle.shared_reading.proofs.WholeReads.{with_whole}
+use Rattle.shared_reading.proofs.WholeReads.{head_read, with_whole}
 use Rattle.shared_reading.proofs.SharedReads.{alone_with, read_shared}
-use Rattle.shared_reading.proofs.StretchSums.{few_bytes, fewer_bytes, away_both, ends_both, map_has, has_map, sum_map}
+use Rattle.shared_reading.proofs.StretchSums.{has_byte, before, has_at_most, le_or, sum_two, sum_none, sum_all, one_has, few_before, some_has, sum_has, few_bytes, fewer_bytes, away_both, ends_both, map_has, has_map, sum_map}
 
 abbrev pub stretches : Table → List Stretch
 stretches table = map stretch_of (blocks_in table)
@@ -66,6 +67,53 @@ more_bytes src some all is_some is_all more =
     among s has =
         let found = has_map stretch_of (blocks_in some) s has in
         subst (Contains (stretches all)) found.2 (map_has stretch_of (blocks_in all) found.0 (more found.0 found.1))
+
+-- ---- one declaration
+
+-- What a declaration got stands before it, so it has as many bytes at the most as stand there.
+module _ (src : Sections) (offset : ℕ) (memory table : Table) (is : IsMemory src memory) (added : Added src offset memory table) where
+  is_table : IsMemory src table
+  is_table = memory_fine src table added.fine
+
+  none_later : (n : ℕ) → offset ≤ n → sum_by (has_byte n) (stretches table) ≤ sum_by (has_byte n) (stretches memory)
+  none_later n behind =
+      elim (some_has n (stretches table)) [
+        | inl none ↦ omega (arith, none)
+        | inr found ↦ omega (arith, one_has n (stretches table) (memory_away src table is_table), old found.0 found.1 found.2)
+      ]
+    where
+      old : (s : Stretch) → Contains (stretches table) s → has_byte n s ≡ 1 → 1 ≤ sum_by (has_byte n) (stretches memory)
+      old s has one =
+          let from = has_map stretch_of (blocks_in table) s has in
+          let b = from.0 in
+          let same : stretch_of b ≡ s = from.2 in
+          let one_too : has_byte n (stretch_of b) ≡ 1 = ap (has_byte n) same ∙ one in
+          elim (added.new b.start (finished_of b) (found_block table 0 b added.fine.rising from.1)) [
+            | inl before ↦ sum_has n (stretches memory) (stretch_of b) (map_has stretch_of (blocks_in memory) b (block_found memory b.start (finished_of b) before)) one_too
+            | inr ends ↦ elim (has_at_most n (stretch_of b)) [
+              | inl none ↦ absurd (omega (arith, none, one_too))
+              | inr within ↦ let less = within.2 in absurd (omega arith)
+            ]
+          ]
+
+  few_new : (n : ℕ) → offset ≤ n → sum_by (before n) (stretches table) ≤ sum_by (before n) (stretches memory) + offset
+  few_new zero le = omega (arith, sum_none (stretches table))
+  few_new (suc n) le =
+      elim (le_or offset n) [
+        | inl earlier ↦ omega (arith, sum_two n (stretches table), sum_two n (stretches memory), few_new n earlier, none_later n earlier)
+        | inr here ↦ omega (arith, few_before (suc n) (stretches table) (memory_away src table is_table), here)
+      ]
+
+  pub new_bytes : offset ≤ length src.body → bytes_in table ≤ bytes_in memory + offset
+  new_bytes within =
+      omega (arith, few_new (length src.body) within, bytes_are table, bytes_are memory, sum_all (length src.body) (stretches table) (memory_ends src table is_table), sum_all (length src.body) (stretches memory) (memory_ends src memory is))
+
+pub few_steps : (src : Sections) (basics : Basics) → HoldsBytes src → (memory : Table) → IsMemory src memory → (offset : ℕ) (read : Read) → read_with src basics memory offset ≡ Ok read → steps_of src memory offset read ≤ length src.body
+few_steps src basics holds memory is offset read e =
+    let fine = fine_memory src memory is in
+    let h = head_read src basics (strings_are src holds) (body_is src holds) memory offset read fine e in
+    let w = with_whole src basics (strings_are src holds) (body_is src holds) memory offset read fine e in
+    omega (arith, new_bytes src offset memory read.table is w.added h.within, h.within, w.within)
 
 -- ---- declarations whose descriptors lie apart
 

@@ -8,7 +8,7 @@ ghost use Rattle.decl_spelling.specs.KnownTypes.{Kept};
 ghost use Rattle.decl_spelling.specs.Declarations.{Read, read_at, decl_of, spelled_of, decl_at};
 ghost use Rattle.shared_reading.specs.Memory.{InOrder, IsMemory, Overlaps, Joins};
 ghost use Rattle.shared_reading.specs.WithMemory.{read_with, shared_at, widened};
-ghost use Rattle.shared_reading.specs.Counted.{bytes_in, read_in_turn, LieApart};
+ghost use Rattle.shared_reading.specs.Counted.{bytes_in, steps_of, read_in_turn, LieApart};
 
 /// A declaration that is read with a memory of its file is what it is by itself, or has the same first fault. What is
 /// remembered then is a memory of the file again, and has all that was remembered before. A memory may begin with
@@ -36,11 +36,15 @@ pub fn apart_from_memory()
         → (Overlaps alone.table memory → ⊥) → (read : Read) × (read_with src basics memory offset ≡ Ok read) }
 {}
 
-/// What is remembered has at most as many bytes as the data section. Where the descriptors of declarations lie apart,
-/// all of these are read in turn, and the steps come to at most the length of the data section.
+/// What is remembered has at most as many bytes as the data section, and one declaration takes at most as many steps.
+/// Where the descriptors of declarations lie apart, all of these are read in turn, and all steps come to at most the
+/// length of the data section.
 pub fn counted_once()
     ensures descriptors { (src : Sections) (memory : Table) → IsMemory src memory
         → bytes_in memory ≤ length src.body }
+    ensures one { (src : Sections) (basics : Basics) → HoldsBytes src → (memory : Table) → IsMemory src memory
+        → (offset : ℕ) (read : Read) → read_with src basics memory offset ≡ Ok read
+        → steps_of src memory offset read ≤ length src.body }
     ensures all { (src : Sections) (basics : Basics) → HoldsBytes src → (decls : List (ℕ × Read))
         → LieApart src basics decls
         → (last : Table) × (steps : ℕ) × (read_in_turn src basics [] (map (λ decl. decl.0) decls) ≡ Ok (last, steps))
