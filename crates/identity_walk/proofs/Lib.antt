@@ -1,0 +1,4 @@
+mod WalkTurns
+mod StackLemmas
+mod TurnLemmas
+mod CompareLemmas
