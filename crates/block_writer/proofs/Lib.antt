@@ -1,5 +1,9 @@
 pub mod Added
+pub mod Declared
+pub mod DeclPut
+pub mod DeclTypes
 pub mod Fused
+pub mod LastItems
 pub mod NumbersAdded
 pub mod Places
 pub mod PutLemmas

@@ -34,7 +34,7 @@ behind_more before [] x = refl
 behind_more before (y ∷ ys) x = behind_more (place_after before y) ys x
 
 module _ (own : Text) where
-  bytes_more : (offset : Text → ℕ) (number : Tree → ℕ) (before : Place) (xs : List Item) (x : Item)
+  pub bytes_more : (offset : Text → ℕ) (number : Tree → ℕ) (before : Place) (xs : List Item) (x : Item)
       → items_bytes own offset number before (xs ++ x ∷ []) ≡ items_bytes own offset number before xs ++ item_bytes own offset number (place_behind before xs) x
   bytes_more offset number before [] x = append-nil (item_bytes own offset number before x)
   bytes_more offset number before (y ∷ ys) x =
@@ -45,7 +45,7 @@ module _ (own : Text) where
   texts_first : (before : Place) (x : Item) (xs : List Item) → items_texts own before (x ∷ xs) ≡ item_texts own before x ++ items_texts own (place_after before x) xs
   texts_first before x xs = flat_map-append (event_texts own) (item_events (λ type. []) before x) (items_events (λ type. []) (place_after before x) xs)
 
-  texts_more : (before : Place) (xs : List Item) (x : Item) → items_texts own before (xs ++ x ∷ []) ≡ items_texts own before xs ++ item_texts own (place_behind before xs) x
+  pub texts_more : (before : Place) (xs : List Item) (x : Item) → items_texts own before (xs ++ x ∷ []) ≡ items_texts own before xs ++ item_texts own (place_behind before xs) x
   texts_more before [] x = texts_first before x [] ∙ append-nil (item_texts own before x)
   texts_more before (y ∷ ys) x =
       let next = place_after before y in

@@ -17,7 +17,7 @@ ids_of _ = []
 abbrev pub ids : List Put → List ℕ
 ids xs = flat_map ids_of xs
 
-meant_types : (type : ℕ → Tree) (xs : List Put) → items_types (map (meant type) xs) ≡ map type (ids xs)
+pub meant_types : (type : ℕ → Tree) (xs : List Put) → items_types (map (meant type) xs) ≡ map type (ids xs)
 meant_types type [] = refl
 meant_types type (put.Number n ∷ xs) = meant_types type xs
 meant_types type (put.Flag x ∷ xs) = meant_types type xs
@@ -29,7 +29,7 @@ meant_types type (put.Type id ∷ xs) = ap (λ (rest : List Tree). type id ∷ r
 
 -- ---- a type for each number, from which the number is got back
 
-abbrev sized : ℕ → Tree
+abbrev pub sized : ℕ → Tree
 sized n = array n (predeclared bool_type)
 
 abbrev size_of : Tree → ℕ

@@ -26,7 +26,8 @@ use type_terms::{Dir, Field, IMethod, Node, NodeId, Sig, Term};
 
 /// Adds what the descriptor of a type holds, in the order of writing. A predeclared type has none.
 pub fn push_descriptor<'a>(node: &'a Node, into: &mut Vec<Item<'a>>) -> Result<(), AllocError>
-    ensures { OnOk result (Adds into.old.items into.new.items (λ type. level_items (retype type (node_shape node.now)))) }
+    ensures { OnOk result (Adds into.old.items into.new.items
+        (λ type. level_items (retype type (node_shape node.now)))) }
 {
     match node {
         Node::Predeclared(_) => Ok(()),
