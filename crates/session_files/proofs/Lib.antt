@@ -5,7 +5,8 @@ pub mod Standing
 mod ComingDown
 pub mod Outcomes
 mod OpenLemmas
-mod LoadingLemmas
+pub mod LoadingLemmas
+pub mod LoadLaws
 mod PackageLemmas
 mod KeyLemmas
 mod KeyListLemmas

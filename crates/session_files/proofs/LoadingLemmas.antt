@@ -65,7 +65,7 @@ pub all_below : (bytes : List ℕ) → ((i : ℕ) → get_or bytes i 0 < 256) �
 all_below [] all = tt
 all_below (b ∷ bytes) all = (all 0, all_below bytes (λ i. all (suc i)))
 
-length_push : {X : Type 0} (xs : List X) (x : X) → length (xs ++ x ∷ []) ≡ suc (length xs)
+pub length_push : {X : Type 0} (xs : List X) (x : X) → length (xs ++ x ∷ []) ≡ suc (length xs)
 length_push [] x = refl
 length_push (y ∷ xs) x = ap suc (length_push xs x)
 
@@ -93,13 +93,13 @@ refused_here held now a b after sources i bytes x files at so_far same le e = we
 
 -- ---- one more file
 
-each_more : (held : Option Held) (words : List Word) (files : List Opened) (w : Word) (o : Opened) → OpenEach held words files → Opens held w o → OpenEach held (words ++ w ∷ []) (files ++ o ∷ [])
+pub each_more : (held : Option Held) (words : List Word) (files : List Opened) (w : Word) (o : Opened) → OpenEach held words files → Opens held w o → OpenEach held (words ++ w ∷ []) (files ++ o ∷ [])
 each_more held [] [] w o each is = (is, tt)
 each_more held [] (f ∷ fs) w o each is = absurd each
 each_more held (v ∷ vs) [] w o each is = absurd each
 each_more held (v ∷ vs) (f ∷ fs) w o each is = (each.0, each_more held vs fs w o each.1 is)
 
-total_more : (files : List Opened) (o : Opened) → total (files ++ o ∷ []) ≡ total files + length o.file.bytes
+pub total_more : (files : List Opened) (o : Opened) → total (files ++ o ∷ []) ≡ total files + length o.file.bytes
 total_more [] o = omega arith
 total_more (f ∷ fs) o = let later = total_more fs o in omega arith
 

@@ -1,5 +1,7 @@
 -- What comes of taking files in.
 use Rattle.std.specs.Prelude.{◌≡◌, ℕ, ◌+◌, ◌<◌, ◌≤◌, List, [], ◌∷◌, ◌++◌, length, Option, None, Some, IfSome}
+use Rattle.std.specs.Prelude.{Result, Ok, Err}
+use Rattle.std.specs.List.{AllByRecursion}
 use Rattle.std.specs.FinMap.{get}
 use Rattle.std.specs.String.{string_bytes}
 use Rattle.outside.specs.Counts.{Rose}
@@ -131,6 +133,15 @@ pub record IsRefused (held : Option Held) (before after : ℕ) (words : List Wor
   pub stands : words ≡ front ++ word ∷ rest
   pub taken : AreTaken held front files
   pub refused : Refuses held before after files word refusal
+
+-- What comes of taking in the files of some words, where no fetch fails: they are open, or the first is refused.
+abbrev pub Loads : Option Held → List Word → Result (List Opened) Refusal → Type 0
+Loads held words (Ok files) = AreTaken held words files
+Loads held words (Err refusal) = IsRefused held 0 0 words refusal
+
+-- each file holds bytes
+abbrev pub HoldBytes : Held → Type 0
+HoldBytes files = (file bytes : List ℕ) → get files file ≡ Some bytes → AllByRecursion (λ b. b < 256) bytes
 
 -- what an error says of the files of a session; want of memory is free
 abbrev pub IsCause : (Refusal → Type 0) → LoadError → Type 0

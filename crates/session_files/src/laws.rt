@@ -1,9 +1,11 @@
 //! Laws of what names are, each the contract of a function that does nothing.
 
-ghost use Rattle.std.specs.Prelude.{◌≡◌, ◌⊎◌, ◌↔◌, ℕ, List, Some};
+ghost use Rattle.std.specs.Prelude.{◌≡◌, ◌⊎◌, ◌↔◌, ℕ, List, Some, Result};
+ghost use Rattle.outside.specs.Files.{Held};
 ghost use Rattle.code_tables.specs.declared.predeclared.Basic.{Basic};
 ghost use Rattle.session_files.specs.Sessions.{Opened, AreSound, IsUnknown};
 ghost use Rattle.session_files.specs.Names.{ComesDownTo, comes_down};
+ghost use Rattle.session_files.specs.Loading.{Word, Refusal, Loads, HoldBytes};
 ghost use Rattle.session_files.specs.Answers.{Outcome, HasOutcome, decls};
 
 /// No file lists a name, or it has one outcome, a declaration or a first fault, in the first file that lists it.
@@ -22,4 +24,13 @@ pub fn one_answer()
 pub fn names_come_down()
     ensures { (files : List Opened) → AreSound files → (path name : List ℕ) (basic : Basic)
         → (comes_down files path name ≡ Some basic) ↔ ComesDownTo files basic path name }
+{}
+
+/// Where no fetch fails, exactly one thing comes of taking files in: all are open, or the first that isn't taken in is
+/// refused.
+pub fn sessions_load_in_one_way()
+    ensures either { (held : Held) (words : List Word) → HoldBytes held
+        → (r : Result (List Opened) Refusal) × Loads (Some held) words r }
+    ensures one { (held : Held) (words : List Word) (a b : Result (List Opened) Refusal) → Loads (Some held) words a
+        → Loads (Some held) words b → a ≡ b }
 {}

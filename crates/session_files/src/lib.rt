@@ -13,7 +13,7 @@ mod session;
 mod sources;
 
 pub use files::Place;
-pub use laws::{names_come_down, one_answer};
+pub use laws::{names_come_down, one_answer, sessions_load_in_one_way};
 pub use limits::{MOST_BYTES, MOST_FILES};
 pub use loading::LoadError;
 pub use session::Session;
