@@ -1,2 +1,2 @@
-mod StackLemmas
-mod OpenLemmas
+pub mod StackLemmas
+pub mod OpenLemmas

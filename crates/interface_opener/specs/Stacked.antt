@@ -1,5 +1,5 @@
 -- What is still to be done as interfaces are opened, as tasks of which the last is done first.
-use Rattle.std.specs.Prelude.{ℕ, List, [], ◌∷◌, false, map, reverse, slice_get, Option, Some}
+use Rattle.std.specs.Prelude.{ℕ, List, [], ◌∷◌, ◌++◌, false, map, reverse, slice_get, Option, Some}
 use Rattle.std.specs.List.{flat_map}
 use Rattle.go_values.specs.declared.qualified.QName.{QName}
 use Rattle.type_terms.specs.declared.literals.Term.{Term}
@@ -37,7 +37,7 @@ abbrev pub elements_left : List Node → ℕ → List ℕ → List (Item ℕ QNa
 elements_left nodes holder ids = flat_map (λ id. element_items by_number holder (element_at nodes id)) ids
 
 -- the names of the defined types whose end is still to come, those that were opened first before others
-abbrev pub closings : List Task → List QName
-closings [] = []
-closings (Closes q ∷ rest) = q ∷ closings rest
-closings (_ ∷ rest) = closings rest
+abbrev pub open_names : {T : Type 0} → List (Item T QName) → List QName
+open_names [] = []
+open_names (closes q ∷ rest) = open_names rest ++ q ∷ []
+open_names (_ ∷ rest) = open_names rest

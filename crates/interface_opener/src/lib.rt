@@ -7,4 +7,4 @@ mod tasks;
 
 pub use found::{Event, Found, enter, join, mark, note};
 pub use open_names::{begin, end, is_open};
-pub use tasks::{Task, put_element, put_inside};
+pub use tasks::{Task, put_element, put_inside, put_top};

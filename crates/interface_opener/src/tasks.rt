@@ -1,6 +1,6 @@
 //! What is still to be done as interfaces are opened.
 
-ghost use Rattle.std.specs.Prelude.{◌≡◌, ◌<◌, ◌++◌, length, map, OnOk};
+ghost use Rattle.std.specs.Prelude.{◌≡◌, ◌<◌, ◌++◌, length, map, false, OnOk};
 ghost use Rattle.type_terms.specs.Arenas.{AllBelow};
 ghost use Rattle.interface_opening.specs.Opening.{element_items, close_items, several_terms, term};
 ghost use Rattle.interface_opener.specs.Numbered.{by_number};
@@ -82,11 +82,32 @@ fn put_embedded(
     if let Node::Union(terms) = arena.node(id) {
         return put_element(tasks, holder, terms.items());
     }
-    let one = [Term {
+    let one = [alone(id)];
+    put_element(tasks, holder, &one)
+}
+
+/// Puts a type as a term of itself before all that is to be done: the terms of a union, or the type as one term.
+pub fn put_top(arena: &Arena, tasks: &mut Vec<Task>, id: NodeId) -> Result<(), AllocError>
+    requires there { id < length arena.now.nodes }
+    ensures { OnOk result (stacked tasks.new.items
+        ≡ map (term id (several_terms by_number (element_at arena.now.nodes id))) (element_at arena.now.nodes id)
+        ++ stacked tasks.old.items) }
+{
+    if let Node::Union(terms) = arena.node(id) {
+        return put_terms(tasks, id, terms.items());
+    }
+    let itself = [alone(id)];
+    put_terms(tasks, id, &itself)
+}
+
+/// A type as the only term of an element.
+fn alone(id: NodeId) -> Term
+    ensures { result ≡ record { tilde = false; ty = id } }
+{
+    Term {
         tilde: false,
         ty: id,
-    }];
-    put_element(tasks, holder, &one)
+    }
 }
 
 /// Puts an element of a holder, with these terms, before all that is to be done: tasks are done from the last one on.

@@ -1,0 +1,10 @@
+mod StayLemmas
+mod TieLemmas
+mod WithinLemmas
+mod StepLemmas
+mod WayLemmas
+mod GivesLemmas
+mod TermLemmas
+mod LookLemmas
+mod LoopLemmas
+mod OpenedLemmas

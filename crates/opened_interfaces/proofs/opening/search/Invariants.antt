@@ -1,0 +1,25 @@
+use Rattle.std.proofs.Common.{ℕ, length}
+use Rattle.environments.specs.Kept.{world, Kept}
+use Rattle.interface_opener.specs.Numbered.{state}
+use Rattle.interface_opener.specs.Stacked.{stacked}
+use Rattle.opened_interfaces.specs.Calls.{Runs}
+use Rattle.opened_interfaces.specs.Meant.{known_meant, due_meant}
+use Rattle.opened_interfaces.specs.Ways.{asks, opened_for, OnWay}
+use Rattle.opened_interfaces.proofs.LoopLemmas.{IsSearching}
+use Rattle.opened_interfaces.proofs.opening.search.Given as goal
+
+abbrev pub invariant-loop-task : goal.invariant-loop-task
+invariant-loop-task g l =
+    let entries = g.E.Env.entries l.fn.env l.fn.arena.nodes in
+    let names = g.E.Env.names l.fn.env in
+    let first = due_meant l.fn.arena.nodes (stacked l.fn.run.tasks.items) in
+    let began = known_meant l.fn.arena.nodes (state l.fn.run.found) in
+    IsSearching entries names first began (due_meant l.arena.nodes (stacked l.run.tasks.items)) (known_meant l.arena.nodes (state l.run.found))
+    × ((n : ℕ) → Kept (OnWay entries names (asks entries) n first began) (OnWay entries names (opened_for entries) n first began)
+    (world entries names (g.E.Env.packages l.fn.env) (g.E.Env.asked l.fn.env))
+    (world (g.E.Env.entries l.env l.arena.nodes) (g.E.Env.names l.env) (g.E.Env.packages l.env) (g.E.Env.asked l.env))
+    l.fn.arena l.arena)
+    × g.E.Env.stands l.env l.arena.nodes × Runs (length l.arena.nodes) l.run
+
+abbrev pub decreases-loop-task : goal.decreases-loop-task
+decreases-loop-task g l = length l.run.tasks.items

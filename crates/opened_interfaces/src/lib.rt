@@ -1,0 +1,10 @@
+//! The interfaces of a type, opened over an environment.
+#![tactic(auto)]
+
+mod looking;
+mod opening;
+mod run;
+mod term_test;
+mod turning;
+
+pub use opening::open_interfaces;
