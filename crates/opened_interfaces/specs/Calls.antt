@@ -1,6 +1,6 @@
 -- What the calls answer that open interfaces.
-use Rattle.std.specs.Prelude.{◌≡◌, ◌<◌, ◌++◌, ℕ, List, [], Bool, true, false, Option, Some, None, Result, Ok, Err, IfSome}
-use Rattle.std.specs.Prelude.{length, nat_eq}
+use Rattle.std.specs.Prelude.{◌≡◌, ◌<◌, ◌++◌, ℕ, List, [], Bool, true, false, Option, Some, None, Result, Ok, Err}
+use Rattle.std.specs.Prelude.{IfSome, length, nat_eq}
 use Rattle.std.specs.List.{list_any}
 use Rattle.go_values.specs.declared.qualified.QName.{QName}
 use Rattle.type_terms.specs.declared.descriptors.Node.{Node}
@@ -9,8 +9,8 @@ use Rattle.type_terms.specs.Denotation.{tree}
 use Rattle.type_terms.specs.Trees.{Tree}
 use Rattle.type_terms.specs.TreeEquality.{same_name}
 use Rattle.interface_opening.specs.Elements.{Interface, Opened}
-use Rattle.interface_opening.specs.Opening.{Item, term, joining, tested, Step, goes, stops, opens, Next, done, faulty, found, inside}
-use Rattle.interface_opening.specs.Opening.{opened_with, none_opened}
+use Rattle.interface_opening.specs.Opening.{Item, term, joining, tested, Step, goes, stops, opens, Next, done, faulty}
+use Rattle.interface_opening.specs.Opening.{found, inside, opened_with, none_opened}
 use Rattle.replacement.specs.declared.faults.SetFault.{SetFault}
 use Rattle.replacement.specs.declared.faults.SetFault.TheVariants.{EmbedCycle, UnionMethods, OutOfMemory}
 use Rattle.replacement.specs.Expansion.{Entries, then, expanded}

@@ -28,10 +28,10 @@ use type_terms::{Arena, NodeId};
 /// The most distinct interfaces that are opened for a type.
 const MOST: u32 = 65_536;
 
-/// The interfaces of a type that has no alias at its head, opened depth first, each distinct one once, and what comes of
-/// them: the methods in order, whether one is `comparable`, and what came to their elements. `TooMany` where more than
-/// 65,536 would be opened. It asks the environment for the names at the heads of the types that it looks at, and for
-/// the aliases that terms mention.
+/// The interfaces of a type that has no alias at its head, opened depth first, each distinct one once, and what comes
+/// of them: the methods in order, whether one is `comparable`, and what came to their elements. `TooMany` where more
+/// than 65,536 would be opened. It asks the environment for the names at the heads of the types that it looks at, and
+/// for the aliases that terms mention.
 pub fn open_interfaces<'a, E: Env<'a>>(
     alloc: Global,
     env: &mut E,

@@ -175,7 +175,8 @@ fn meet<'a, E: Env<'a>>(
     ensures kept { Kept (AtShown (E.entries env.old arena.old.nodes) (E.names env.old)
         (asks (E.entries env.old arena.old.nodes)) (tree arena.old.nodes x) (tree arena.old.nodes part.now.term.ty))
         (AtShown (E.entries env.old arena.old.nodes) (E.names env.old)
-        (opened_for (E.entries env.old arena.old.nodes)) (tree arena.old.nodes x) (tree arena.old.nodes part.now.term.ty))
+        (opened_for (E.entries env.old arena.old.nodes))
+        (tree arena.old.nodes x) (tree arena.old.nodes part.now.term.ty))
         (world (E.entries env.old arena.old.nodes) (E.names env.old) (E.packages env.old) (E.asked env.old))
         (world (E.entries env.new arena.new.nodes) (E.names env.new) (E.packages env.new) (E.asked env.new))
         arena.old arena.new }
@@ -199,7 +200,8 @@ fn meet<'a, E: Env<'a>>(
 
 /// Puts that an interface comes to the holder of a term before all that is to be done.
 fn put_join(tasks: &mut Vec<Task>, part: &Part, of: NodeId) -> Result<(), SetFault>
-    ensures put { OnOk result (stacked tasks.new.items ≡ joins part.now.holder part.now.several of ∷ stacked tasks.old.items) }
+    ensures put { OnOk result (stacked tasks.new.items
+        ≡ joins part.now.holder part.now.several of ∷ stacked tasks.old.items) }
     ensures fault { OnErr result (result ≡ Err SetFault.OutOfMemory) }
 {
     let task = Task::Joins {
@@ -215,7 +217,8 @@ fn put_join(tasks: &mut Vec<Task>, part: &Part, of: NodeId) -> Result<(), SetFau
 
 /// Notes that a term comes to its holder.
 fn note_term(found: &mut Found, holder: NodeId, term: Term) -> Result<(), SetFault>
-    ensures noted { OnOk result (state found.new ≡ noting by_number (has_term holder (term_of term)) (state found.old)) }
+    ensures noted { OnOk result (state found.new
+        ≡ noting by_number (has_term holder (term_of term)) (state found.old)) }
     ensures fault { OnErr result (result ≡ Err SetFault.OutOfMemory) }
 {
     match note(found, Event::Term { holder, term }) {
