@@ -1,24 +1,22 @@
 -- What a later call gives, the whole gives.
-use Rattle.std.proofs.Common.{◌≡◌, ℕ, ◌<◌, Bool, List, Option, Some, None, Ok, Err, sym, subst, ◌∙◌, ap}
-use Rattle.std.specs.Prelude.{Result, IfSome}
+use Rattle.std.proofs.Common.{◌≡◌, ℕ, Bool, List, Option, Some, None, Ok, Err, subst, ◌∙◌}
+use Rattle.std.specs.Prelude.{Result}
 use Rattle.go_values.specs.declared.qualified.QName.{QName}
 use Rattle.type_terms.specs.declared.descriptors.Node.{Node}
 use Rattle.type_terms.specs.Arenas.{Contents, Extends}
-use Rattle.type_terms.specs.Denotation.{tree}
 use Rattle.type_terms.specs.Trees.{Tree}
 use Rattle.environments.specs.OpenedTypes.{AddsAmong}
-use Rattle.interface_opening.specs.Elements.{Interface}
-use Rattle.interface_opening.specs.Opening.{Step, goes, stops, opens, Next}
+use Rattle.interface_opening.specs.Opening.{Step, stops}
 use Rattle.replacement.specs.declared.faults.SetFault.{SetFault}
 use Rattle.replacement.specs.declared.faults.SetFault.TheVariants.{Env, AliasCycle, EmbedCycle, Arity, Kind, TermInterface, UnionMethods, TooMany, Nodes, OutOfMemory}
 use Rattle.replacement.specs.Expansion.{Entries}
 use Rattle.replacement.specs.Calls.{Stops, Gives}
-use Rattle.replacement.proofs.KeptLemmas.{stops_later, stops_more}
+use Rattle.replacement.proofs.KeptLemmas.{stops_later}
 use Rattle.type_sets.specs.Interfaces.{SetMethod as Method}
 use Rattle.interface_opener.specs.declared.found.Found.{Found}
 use Rattle.opened_interfaces.specs.declared.run.Run.{Run}
 use Rattle.opened_interfaces.specs.declared.run.Met.{Met}
-use Rattle.opened_interfaces.specs.Calls.{GivesStep, GivesNext, GivesJoined}
+use Rattle.opened_interfaces.specs.Calls.{GivesStep, GivesJoined}
 
 -- what is said of later values is said of the same earlier ones
 pub same_world : (P : Entries → List QName → Tree → Type 0) (later entries : Entries) (more names : List QName) (type first : Tree)

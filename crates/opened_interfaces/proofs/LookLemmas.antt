@@ -1,15 +1,15 @@
 -- What a term leads to, where its type was settled.
-use Rattle.std.proofs.Common.{◌≡◌, ℕ, ◌<◌, ◌≤◌, Bool, true, false, ◌||◌, List, [], ◌∷◌, ◌++◌, length, Option, Some, None, Ok, Err, refl, ap, sym, subst, ◌∙◌, arith}
-use Rattle.std.specs.Prelude.{Result, IfSome, nat_eq, option_map}
+use Rattle.std.proofs.Common.{◌≡◌, ℕ, ◌<◌, Bool, true, false, ◌||◌, List, ◌∷◌, length, Option, Some, None, Ok, Err, ap, sym, subst, ◌∙◌}
+use Rattle.std.specs.Prelude.{Result, IfSome, nat_eq}
 use Rattle.std.specs.List.{list_any}
 use Rattle.go_values.specs.declared.qualified.QName.{QName}
-use Rattle.type_terms.specs.Arenas.{Contents, AllBelow, IsArena, Extends}
+use Rattle.type_terms.specs.Arenas.{Contents, IsArena, Extends}
 use Rattle.type_terms.specs.Denotation.{tree}
 use Rattle.type_terms.specs.Extensions.{extends_tree, extends_longer}
 use Rattle.type_terms.specs.Trees.{Tree}
 use Rattle.type_terms.specs.TreeEquality.{same_name}
-use Rattle.interface_opening.specs.Elements.{Term, Interface, has_term, Opened, Looks}
-use Rattle.interface_opening.specs.Opening.{Item, term, joins, Step, goes, stops, opens, noting, closing, is_open, unless_open, new_or_known, joined, shown, step, has, tested}
+use Rattle.interface_opening.specs.Elements.{has_term, Opened, Looks}
+use Rattle.interface_opening.specs.Opening.{Item, joins, Step, goes, stops, opens, noting, closing, is_open, unless_open, new_or_known, joined, shown, step, tested}
 use Rattle.replacement.specs.declared.faults.SetFault.{SetFault}
 use Rattle.replacement.specs.declared.faults.SetFault.TheVariants.{EmbedCycle}
 use Rattle.replacement.specs.Expansion.{Entries, then, expanded}
@@ -21,9 +21,8 @@ use Rattle.type_sets.specs.Interfaces.{SetMethod as Method}
 use Rattle.type_sets.specs.TypeSets.{looks, name_of}
 use Rattle.interface_nodes.specs.declared.methods.SetMethod.{SetMethod}
 use Rattle.interface_nodes.specs.declared.held.Held.{Held}
-use Rattle.interface_nodes.specs.HeldNodes.{meant, held_nodes}
+use Rattle.interface_nodes.specs.HeldNodes.{meant}
 use Rattle.interface_opener.specs.Numbered.{by_number}
-use Rattle.interface_opener.specs.Stacked.{term_of, open_names}
 use Rattle.interface_opener.proofs.OpenLemmas.{open_told}
 use Rattle.opened_interfaces.specs.declared.run.Part.{Part}
 use Rattle.opened_interfaces.specs.Calls.{settled_for, seen, part_item, IsRun, IsClosed, GivesStep}
@@ -31,8 +30,8 @@ use Rattle.opened_interfaces.specs.declared.run.Run.{Run}
 use Rattle.opened_interfaces.specs.declared.run.Met.{Met}
 use Rattle.opened_interfaces.specs.Ways.{asks, opened_for, AtShown, AtTerm, AtItem, shown as shown_at}
 use Rattle.opened_interfaces.proofs.GivesLemmas.{same_world, step_later}
-use Rattle.opened_interfaces.specs.Meant.{item_mapped, known_meant, due_meant, IsWithin, AreDue}
-use Rattle.opened_interfaces.proofs.StayLemmas.{known_stays, due_stays, within_more, due_more}
+use Rattle.opened_interfaces.specs.Meant.{item_mapped, known_meant, due_meant, IsWithin}
+use Rattle.opened_interfaces.proofs.StayLemmas.{known_stays, within_more, due_more}
 use Rattle.opened_interfaces.proofs.TieLemmas.{closing_tied, noting_tied, has_tied}
 use Rattle.opened_interfaces.proofs.WithinLemmas.{noting_within}
 use Rattle.opened_interfaces.proofs.StepLemmas.{term_settled, term_stops, closed_goes, open_stops, known_joins, new_shows, shown_goes, shown_opens, shown_stops}

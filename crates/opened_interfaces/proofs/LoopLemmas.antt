@@ -1,6 +1,6 @@
 -- What the two loops of an opening keep.
-use Rattle.std.proofs.Common.{◌≡◌, ℕ, zero, suc, ◌<◌, Bool, true, false, List, [], ◌∷◌, ◌++◌, length, map, Option, Some, None, Ok, Err, refl, ap, sym, subst, ◌∙◌, arith}
-use Rattle.std.specs.Prelude.{Result, IfSome}
+use Rattle.std.proofs.Common.{◌≡◌, ℕ, suc, Bool, List, [], ◌∷◌, ◌++◌, length, Option, Some, None, Ok, Err, refl, ap, sym, subst, ◌∙◌}
+use Rattle.std.specs.Prelude.{Result}
 use Rattle.std.proofs.lemmas.List.{map-append}
 use Rattle.go_values.specs.declared.qualified.QName.{QName}
 use Rattle.environments.specs.OpenedTypes.{AddsAmong}
@@ -9,7 +9,7 @@ use Rattle.type_terms.specs.Denotation.{tree}
 use Rattle.type_terms.specs.Extensions.{extends_tree}
 use Rattle.type_terms.specs.Trees.{Tree}
 use Rattle.interface_opening.specs.Elements.{Interface, Opened, Looks}
-use Rattle.interface_opening.specs.Opening.{Item, term, joins, ends, closes, Step, goes, stops, opens, Next, done, faulty, found, step, joining, next, inside, opened_with, opening}
+use Rattle.interface_opening.specs.Opening.{Item, term, joins, ends, closes, Step, goes, opens, done, found, step, joining, next, inside, opened_with, opening}
 use Rattle.replacement.specs.declared.faults.SetFault.{SetFault}
 use Rattle.replacement.specs.declared.faults.SetFault.TheVariants.{TooMany}
 use Rattle.replacement.specs.Expansion.{Entries}
@@ -19,13 +19,13 @@ use Rattle.type_sets.specs.Interfaces.{SetMethod as Method}
 use Rattle.type_sets.specs.TypeSets.{looks, set_limit}
 use Rattle.interface_nodes.specs.declared.methods.SetMethod.{SetMethod}
 use Rattle.interface_nodes.specs.HeldNodes.{meant}
-use Rattle.interface_opener.specs.Numbered.{by_number, state}
+use Rattle.interface_opener.specs.Numbered.{state}
 use Rattle.interface_opener.specs.Stacked.{stacked}
 use Rattle.opened_interfaces.specs.declared.run.Run.{Run}
 use Rattle.opened_interfaces.specs.declared.run.Met.{Met}
-use Rattle.opened_interfaces.specs.Calls.{IsRun, Runs, IsMet, GivesStep, GivesNext, GivesOpened, left_by}
+use Rattle.opened_interfaces.specs.Calls.{GivesStep, GivesNext, left_by}
 use Rattle.opened_interfaces.specs.Meant.{item_mapped, known_meant, due_meant, ItemWithin, AreDue}
-use Rattle.opened_interfaces.specs.Ways.{ComesTo, here, on, into, Needs, asks, opened_for, AtItem, OnWay}
+use Rattle.opened_interfaces.specs.Ways.{ComesTo, here, on, Needs, asks, opened_for, AtItem, OnWay}
 use Rattle.opened_interfaces.proofs.GivesLemmas.{same_worlds}
 use Rattle.opened_interfaces.proofs.StayLemmas.{due_stays}
 use Rattle.opened_interfaces.proofs.WayLemmas.{comes_again, next_on, next_stops, next_opens, next_comes, opening_done, opening_faulty, opening_over, opening_into, way_here, way_later}

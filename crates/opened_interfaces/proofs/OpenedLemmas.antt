@@ -1,18 +1,14 @@
 -- An interface is opened, and an opening begins.
-use Rattle.std.proofs.Common.{◌≡◌, ℕ, ◌<◌, List, [], ◌++◌, length, map, Option, None, Some, refl, ap, sym, subst, ◌∙◌}
-use Rattle.std.specs.Prelude.{IfSome}
+use Rattle.std.proofs.Common.{◌≡◌, ℕ, ◌<◌, List, [], ◌++◌, length, map, ap, sym, subst, ◌∙◌}
 use Rattle.std.proofs.lemmas.List.{append-nil}
-use Rattle.go_values.specs.declared.qualified.QName.{QName}
 use Rattle.type_terms.specs.declared.descriptors.Node.{Node}
-use Rattle.type_terms.specs.Arenas.{AllBelow, IsArena}
-use Rattle.interface_opening.specs.Elements.{Opened}
-use Rattle.interface_opening.specs.Opening.{Item, term, opened_with, close_items, several_terms, none_opened}
-use Rattle.interface_nodes.specs.declared.methods.SetMethod.{SetMethod}
+use Rattle.type_terms.specs.Arenas.{IsArena}
+use Rattle.interface_opening.specs.Opening.{term, opened_with, close_items, several_terms, none_opened}
 use Rattle.interface_opener.specs.Numbered.{by_number, state, shown}
 use Rattle.interface_opener.specs.Stacked.{stacked, element_at, elements_left, open_names}
 use Rattle.opened_interfaces.specs.declared.run.Run.{Run}
 use Rattle.opened_interfaces.specs.declared.run.Met.{Met}
-use Rattle.opened_interfaces.specs.Calls.{IsRun, Runs, IsMet, IsBegun, IsOpened}
+use Rattle.opened_interfaces.specs.Calls.{Runs, IsMet, IsBegun, IsOpened}
 use Rattle.opened_interfaces.specs.Meant.{known_meant, due_meant, IsWithin, AreDue}
 use Rattle.opened_interfaces.proofs.TieLemmas.{opened_tied, inside_tied, top_tied}
 use Rattle.opened_interfaces.proofs.WithinLemmas.{opened_within, held_embedded, inside_due, elements_open, terms_due, element_there, top_open}

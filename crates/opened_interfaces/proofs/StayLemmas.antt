@@ -10,7 +10,7 @@ use Rattle.type_terms.specs.declared.descriptors.Node.{Node}
 use Rattle.type_terms.specs.Arenas.{Contents, AllBelow, IsArena, Extends}
 use Rattle.type_terms.specs.Denotation.{tree}
 use Rattle.type_terms.specs.Denoted.{tree_told, all_weaker}
-use Rattle.type_terms.specs.Extensions.{extends_tree, extends_longer}
+use Rattle.type_terms.specs.Extensions.{extends_tree}
 use Rattle.type_terms.specs.NodeShapes.{sig_shape}
 use Rattle.type_terms.specs.ShapeLaws.{Agree, sig_agrees}
 use Rattle.type_terms.specs.Trees.{Text}

@@ -4,7 +4,6 @@ use Rattle.std.specs.Prelude.{Result, option_map}
 use Rattle.go_values.specs.declared.qualified.QName.{QName}
 use Rattle.type_terms.specs.Trees.{Tree}
 use Rattle.interface_opening.specs.Elements.{Interface}
-use Rattle.interface_opening.specs.Opening.{tested}
 use Rattle.replacement.specs.declared.faults.SetFault.{SetFault}
 use Rattle.replacement.specs.Expansion.{Entries, then, expanded}
 use Rattle.replacement.specs.Calls.{Gives, AsksExpanding, OpensExpanding}
@@ -20,7 +19,7 @@ use Rattle.term_tests.specs.Mentions.{IsMentioned, OpensMentioned, Tells}
 use Rattle.type_sets.specs.Interfaces.{SetMethod as Method}
 use Rattle.type_sets.specs.TypeSets.{looks, name_of}
 use Rattle.opened_interfaces.specs.Calls.{settled_for, unless_shown, seen}
-use Rattle.opened_interfaces.specs.Ways.{Needs, asks, opened_for, AtShown, AtTerm, first, way, shown}
+use Rattle.opened_interfaces.specs.Ways.{asks, opened_for, AtShown, AtTerm, first, way}
 use Rattle.opened_interfaces.proofs.GivesLemmas.{same_world, gives_later}
 
 module _ (later entries : Entries) (more names : List QName) (type first_type : Tree) (e : later ≡ entries) (n : more ≡ names) (t : type ≡ first_type) where

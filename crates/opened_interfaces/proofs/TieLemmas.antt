@@ -1,29 +1,29 @@
 -- What single steps over numbers of nodes do to what these mean.
-use Rattle.std.proofs.Common.{◌≡◌, ℕ, zero, suc, ◌<◌, Bool, true, false, ◌||◌, cond, List, [], ◌∷◌, ◌++◌, length, map, Option, Some, None, Ok, Err, refl, ap, sym, subst, ◌∙◌, arith, append_assoc}
-use Rattle.std.specs.Prelude.{Result, nat_eq, slice_get}
-use Rattle.std.specs.List.{list_any, flat_map, AllByRecursion}
+use Rattle.std.proofs.Common.{◌≡◌, ℕ, zero, suc, ◌<◌, Bool, true, false, ◌||◌, cond, List, [], ◌∷◌, ◌++◌, length, map, Option, Some, None, Ok, Err, refl, ap, sym, ◌∙◌, arith, append_assoc}
+use Rattle.std.specs.Prelude.{Result, nat_eq}
+use Rattle.std.specs.List.{list_any, flat_map}
 use Rattle.std.proofs.lemmas.List.{map-append}
 use Rattle.go_values.specs.declared.qualified.QName.{QName}
 use Rattle.type_terms.specs.declared.descriptors.Node.{Node}
-use Rattle.type_terms.specs.declared.descriptors.Node.TheVariants.{Predeclared, Named, Param, AliasName, Pointer, Slice, Array, Chan, MapOf, FuncOf, StructOf, Iface, Instance, Union}
+use Rattle.type_terms.specs.declared.descriptors.Node.TheVariants.{Union}
 use Rattle.type_terms.specs.declared.literals.Term.{Term}
-use Rattle.type_terms.specs.Arenas.{Contents, IsNode, AllBelow, IsArena}
+use Rattle.type_terms.specs.Arenas.{IsNode, AllBelow, IsArena}
 use Rattle.type_terms.specs.Denotation.{tree}
 use Rattle.type_terms.specs.Denoted.{tree_unfolds}
-use Rattle.type_terms.specs.NodeShapes.{node_shape, term_shape, children}
+use Rattle.type_terms.specs.NodeShapes.{node_shape, term_shape}
 use Rattle.type_terms.specs.Shapes.{TermOf, term_map, retype}
 use Rattle.type_terms.specs.Shapes as level
-use Rattle.type_terms.specs.Trees.{Tree, Terms, Level, union, terms_of, tree_of, term_list}
+use Rattle.type_terms.specs.Trees.{Tree, Level, union, terms_of, tree_of, term_list}
 use Rattle.type_terms.specs.TreeLevels.{level_of-tree_of}
 use Rattle.type_terms.specs.TreeEquality.{same_name}
-use Rattle.interface_opening.specs.Elements.{Term as OpenTerm, Element, Event, has_term, has_interface, ends_element, Opened, Looks}
-use Rattle.interface_opening.specs.Mapped.{term_mapped, event_mapped, opened_mapped, AgreeOn}
-use Rattle.interface_opening.specs.Opening.{Item, term, joins, ends, closes, Step, goes, stops, opens, noting, marking, closing, is_open, joined, opened_with, marked_by, element_items, close_items, inside, several_terms, has}
+use Rattle.interface_opening.specs.Elements.{Term as OpenTerm, Event, has_interface, Opened, Looks}
+use Rattle.interface_opening.specs.Mapped.{term_mapped, event_mapped, AgreeOn}
+use Rattle.interface_opening.specs.Opening.{Item, term, joins, ends, closes, Step, goes, stops, noting, marking, closing, joined, opened_with, marked_by, element_items, close_items, inside, several_terms, has}
 use Rattle.interface_opening.proofs.MappedLemmas.{noting_mapped, has_mapped, marking_mapped}
 use Rattle.replacement.specs.declared.faults.SetFault.{SetFault}
 use Rattle.replacement.specs.declared.faults.SetFault.TheVariants.{Env, AliasCycle, EmbedCycle, Arity, Kind, TermInterface, UnionMethods, TooMany, Nodes, OutOfMemory}
 use Rattle.replacement.specs.Expansion.{Entries}
-use Rattle.type_sets.specs.Interfaces.{SetMethod as Method, union_terms, element}
+use Rattle.type_sets.specs.Interfaces.{SetMethod as Method, element}
 use Rattle.type_sets.specs.TypeSets.{looks, top_items}
 use Rattle.interface_nodes.specs.declared.methods.SetMethod.{SetMethod}
 use Rattle.interface_nodes.specs.declared.held.Held.{Held}

@@ -1,16 +1,15 @@
 -- What is known and still to be done keeps nodes of the arena, and the names that are open.
-use Rattle.std.proofs.Common.{◌≡◌, ℕ, zero, suc, ◌<◌, ◌≤◌, Bool, true, false, cond, List, [], ◌∷◌, ◌++◌, length, map, Option, Some, None, refl, ap, sym, subst, ◌∙◌, arith, append_assoc}
-use Rattle.std.specs.Prelude.{slice_get}
+use Rattle.std.proofs.Common.{◌≡◌, ℕ, zero, suc, ◌<◌, Bool, true, false, cond, List, [], ◌∷◌, ◌++◌, length, map, Option, Some, None, refl, ap, sym, subst, ◌∙◌, arith, append_assoc}
 use Rattle.std.specs.List.{flat_map, AllByRecursion}
 use Rattle.go_values.specs.declared.qualified.QName.{QName}
 use Rattle.type_terms.specs.declared.descriptors.Node.{Node}
-use Rattle.type_terms.specs.declared.descriptors.Node.TheVariants.{Predeclared, Named, Param, AliasName, Pointer, Slice, Array, Chan, MapOf, FuncOf, StructOf, Iface, Instance, Union}
+use Rattle.type_terms.specs.declared.descriptors.Node.TheVariants.{Union}
 use Rattle.type_terms.specs.declared.literals.Term.{Term}
-use Rattle.type_terms.specs.Arenas.{Contents, IsNode, AllBelow, IsArena}
+use Rattle.type_terms.specs.Arenas.{IsNode, AllBelow, IsArena}
 use Rattle.type_terms.specs.NodeShapes.{children}
 use Rattle.type_terms.specs.Replaced.{all_left, all_right, all_append}
 use Rattle.interface_opening.specs.Elements.{Term as OpenTerm, Event, has_interface, Opened}
-use Rattle.interface_opening.specs.Opening.{Item, term, joins, ends, closes, Step, goes, stops, noting, marking, joined, opened_with, marked_by, element_items, close_items, with_mark, has, several_terms}
+use Rattle.interface_opening.specs.Opening.{Item, term, ends, Step, goes, stops, noting, marking, joined, opened_with, marked_by, element_items, close_items, with_mark, has, several_terms}
 use Rattle.replacement.specs.declared.faults.SetFault.TheVariants.{UnionMethods}
 use Rattle.replacement.specs.declared.faults.SetFault.{SetFault}
 use Rattle.interface_nodes.specs.declared.methods.SetMethod.{SetMethod}

@@ -1,4 +1,3 @@
-use Rattle.std.proofs.Common.{rules, refl}
 use Rattle.environments.specs.KeptLaws.{kept_more}
 use Rattle.type_terms.specs.Denotation.{tree}
 use Rattle.opened_interfaces.specs.Ways.{way}

@@ -1,4 +1,4 @@
-use Rattle.std.proofs.Common.{rules, refl}
+use Rattle.std.proofs.Common.{refl}
 use Rattle.std.proofs.lemmas.Result.{err_from_is_err_and}
 use Rattle.environments.specs.KeptLaws.{kept_again, kept_more}
 use Rattle.type_terms.specs.Denotation.{tree}

@@ -1,7 +1,7 @@
 use Rattle.std.proofs.Common.{rules, false, ◌≡◌, ◌++◌, [], map, ap, ◌∙◌}
-use Rattle.interface_opener.specs.Numbered.{by_number, event_of, state}
+use Rattle.interface_opener.specs.Numbered.{by_number, event_of}
 use Rattle.interface_opener.specs.Stacked.{stacked, element_at}
-use Rattle.interface_opening.specs.Opening.{term, several_terms, none_opened}
+use Rattle.interface_opening.specs.Opening.{term, several_terms}
 use Rattle.opened_interfaces.proofs.OpenedLemmas.{node_begun}
 use Rattle.opened_interfaces.proofs.opening.begun.Goals as goal
 

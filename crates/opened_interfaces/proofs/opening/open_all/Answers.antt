@@ -1,4 +1,4 @@
-use Rattle.std.proofs.Common.{rules, ◌≡◌, suc, ◌-◌, ap, sym, subst, ◌∙◌, Ok, Err, None}
+use Rattle.std.proofs.Common.{rules, ◌≡◌, suc, ◌-◌, Err, None}
 use Rattle.std.proofs.lemmas.Result.{err_from_is_err_and}
 use Rattle.environments.specs.KeptLaws.{kept_itself, kept_again, kept_more}
 use Rattle.interface_nodes.specs.HeldNodes.{meant}

@@ -1,4 +1,4 @@
-use Rattle.std.proofs.Common.{rules, ◌≡◌, ◌∷◌, ◌++◌, [], ap, sym, subst, ◌∙◌, length, Ok, Err, None}
+use Rattle.std.proofs.Common.{rules, ◌≡◌, ◌∷◌, ◌++◌, [], ap, subst, ◌∙◌, length, Err, None}
 use Rattle.std.proofs.lemmas.Result.{err_from_is_err_and}
 use Rattle.environments.specs.KeptLaws.{kept_itself, kept_again, kept_more}
 use Rattle.interface_opener.specs.Numbered.{state}
@@ -6,7 +6,7 @@ use Rattle.interface_opener.specs.Stacked.{item_of, stacked}
 use Rattle.interface_opener.proofs.StackLemmas.{stacked_pushed}
 use Rattle.opened_interfaces.specs.Calls.{IsRun, left_by}
 use Rattle.opened_interfaces.specs.Meant.{known_meant, due_meant}
-use Rattle.opened_interfaces.proofs.LoopLemmas.{IsSearching, searching, search_stops, search_goes, search_finds, search_ends, joining_stays, asked_here, opened_here, step_told, some_told, none_told}
+use Rattle.opened_interfaces.proofs.LoopLemmas.{IsSearching, searching, search_stops, search_goes, search_finds, joining_stays, asked_here, opened_here, step_told, some_told, none_told}
 use Rattle.opened_interfaces.proofs.opening.search.Goals as goal
 
 pub loop-task-init : goal.loop-task-init

@@ -1,4 +1,3 @@
-use Rattle.interface_opener.specs.Numbered.{state}
 use Rattle.opened_interfaces.proofs.TieLemmas.{joined_gives}
 use Rattle.opened_interfaces.proofs.turning.join_known.Goals as goal
 

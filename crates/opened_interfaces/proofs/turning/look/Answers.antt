@@ -1,11 +1,10 @@
-use Rattle.std.proofs.Common.{rules, ◌≡◌, true, false, refl, ap, sym, subst, ◌∙◌, ◌∷◌, length}
+use Rattle.std.proofs.Common.{rules, ◌≡◌, true, false, sym, ◌∙◌, ◌∷◌, length}
 use Rattle.std.specs.Prelude.{nat_eq}
 use Rattle.std.specs.List.{list_any}
 use Rattle.std.proofs.lemmas.Result.{err_from_is_err_and}
 use Rattle.environments.specs.KeptLaws.{kept_again, kept_more}
 use Rattle.interface_opener.specs.Numbered.{state}
 use Rattle.interface_opener.specs.Stacked.{stacked}
-use Rattle.type_terms.specs.Denotation.{tree}
 use Rattle.type_terms.specs.Extensions.{extends_longer}
 use Rattle.opened_interfaces.specs.Calls.{part_item}
 use Rattle.opened_interfaces.proofs.GivesLemmas.{join_stops}

@@ -1,4 +1,4 @@
-use Rattle.std.proofs.Common.{rules, ◌≡◌, refl, ap, sym, subst, ◌∙◌, length, Ok, Some, None, arith}
+use Rattle.std.proofs.Common.{ap, sym, subst, ◌∙◌, length, Ok, arith}
 use Rattle.std.specs.Prelude.{IfSome, option_map}
 use Rattle.std.proofs.lemmas.Result.{err_from_is_err_and}
 use Rattle.interface_nodes.specs.HeldNodes.{meant, held_nodes}
