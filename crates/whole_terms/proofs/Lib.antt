@@ -1,0 +1,9 @@
+mod TestLemmas
+mod HoldsLemmas
+mod PutLemmas
+mod OpenLemmas
+mod LookLemmas
+mod ParameterLemmas
+mod AddLemmas
+mod SummaryLemmas
+mod WholeLemmas
