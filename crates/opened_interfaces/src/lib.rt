@@ -4,7 +4,6 @@
 mod looking;
 mod opening;
 mod run;
-mod term_test;
 mod turning;
 
 pub use opening::open_interfaces;

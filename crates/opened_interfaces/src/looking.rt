@@ -12,7 +12,6 @@ ghost use Rattle.type_terms.specs.Arenas.{IsArena};
 ghost use Rattle.type_terms.specs.Denotation.{tree};
 
 use crate::run::Part;
-use crate::term_test::whole;
 use environments::Env;
 use go_values::QName;
 use interface_nodes::{Held, held_beneath};
@@ -20,6 +19,7 @@ use replacement::{SetFault, defined_name, expand};
 use std::alloc::{AllocError, Global};
 use term_tests::no_cycle;
 use type_terms::{Arena, NodeId};
+use whole_terms::whole;
 
 /// The type of a term with no alias at its head. One of several terms, or one with a tilde, is tested first.
 pub(crate) fn settle_part<'a, E: Env<'a>>(
