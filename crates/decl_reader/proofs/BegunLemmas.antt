@@ -5,7 +5,6 @@ use Rattle.std.specs.List.{AllByRecursion}
 use Rattle.std.proofs.lemmas.Bool.{cases_lt, lt-ltb, le-ltb, le-leb, lt-leb}
 use Rattle.wire_bytes.proofs.Spellings.{IsBytes}
 use Rattle.wire_bytes.specs.Reading.{place}
-use Rattle.type_terms.specs.declared.descriptors.Node.{Node}
 use Rattle.type_terms.specs.Shapes.{predeclared_of, named_of, parameter_of, alias_of, pointer_of, slice_of, array_of, chan_of, map_of, func_of, struct_of, interface_of, instance_of, union_of}
 use Rattle.decl_spelling.specs.declared.mention.Mention.{Mention}
 use Rattle.decl_spelling.specs.Sections.{Sections, window}
@@ -34,8 +33,7 @@ use Rattle.block_reader.specs.Calls.{ahead_of}
 use Rattle.block_reader.specs.Parts.{flat_spelled}
 use Rattle.decl_reader.specs.Opens.{IsBegun}
 use Rattle.decl_reader.proofs.ResumeLemmas.{begins}
-use Rattle.decl_reader.proofs.LeftLemmas.{begins_left}
-use Rattle.decl_reader.specs.Blocks.{Entry, table_of, HasRoom, IsStacked}
+use Rattle.decl_reader.specs.Places.{HasRoom, IsStacked}
 use Rattle.decl_reader.specs.Opens.{HasArgument}
 
 -- ---- how far a descriptor may go
@@ -56,17 +54,17 @@ free_at_least o limit (e ∷ es) h = by (cases_lt o e.1.end) (free_at_least o li
     by (inl ends) rest = rw (lt-leb e.1.end o ends) (begun (cases_lt o e.0))
     by (inr ended) rest = rw (le-leb e.1.end o ended) rest
 
-all_later : (end m : ℕ) (es : List Entry) (o : ℕ) → end ≤ m → AllByRecursion (λ e. m ≤ e.0) es → HasRoom o end es
+all_later : (end m : ℕ) (es : Table) (o : ℕ) → end ≤ m → AllByRecursion (λ e. m ≤ e.0) es → HasRoom o end es
 all_later end m [] o h all = tt
 all_later end m (e ∷ es) o h all = (inr (omega (arith, all.0)), all_later end m es o h all.1)
 
 -- where it ends before what is taken, no finished descriptor has a byte of it
-pub room_free : (nodes : List Node) (o end limit : ℕ) (es : List Entry) → IsStacked es → o < end → end ≤ free_to o limit (table_of nodes es) → HasRoom o end es
-room_free nodes o end limit [] stacked some free = tt
-room_free nodes o end limit (e ∷ es) stacked some free = by (cases_lt o e.1.end) (λ f. room_free nodes o end limit es stacked.2 some f)
+pub room_free : (o end limit : ℕ) (es : Table) → IsStacked es → o < end → end ≤ free_to o limit es → HasRoom o end es
+room_free o end limit [] stacked some free = tt
+room_free o end limit (e ∷ es) stacked some free = by (cases_lt o e.1.end) (λ f. room_free o end limit es stacked.2 some f)
   where
     rest : ℕ
-    rest = free_to o limit (table_of nodes es)
+    rest = free_to o limit es
 
     least : ℕ
     least = cond (nat_lt e.0 limit) e.0 limit
@@ -83,9 +81,9 @@ room_free nodes o end limit (e ∷ es) stacked some free = by (cases_lt o e.1.en
         let no : end ≤ o = subst (λ n. end ≤ n) (ap (λ b. cond b o (cond (nat_lt e.0 limit) e.0 limit)) (le-leb e.0 o inside)) h in
         absurd (omega arith)
 
-    by : (o < e.1.end) ⊎ (e.1.end ≤ o) → (end ≤ free_to o limit (table_of nodes es) → HasRoom o end es) → HasRoom o end (e ∷ es)
-    by (inl ends) more = begun (cases_lt o e.0) (subst (λ n. end ≤ n) (ap (λ b. cond b (free_to o limit (table_of nodes es)) (cond (nat_le e.0 o) o (cond (nat_lt e.0 limit) e.0 limit))) (lt-leb e.1.end o ends)) free) ends
-    by (inr ended) more = (inl ended, more (subst (λ n. end ≤ n) (ap (λ b. cond b (free_to o limit (table_of nodes es)) (cond (nat_le e.0 o) o (cond (nat_lt e.0 limit) e.0 limit))) (le-leb e.1.end o ended)) free))
+    by : (o < e.1.end) ⊎ (e.1.end ≤ o) → (end ≤ free_to o limit es → HasRoom o end es) → HasRoom o end (e ∷ es)
+    by (inl ends) more = begun (cases_lt o e.0) (subst (λ n. end ≤ n) (ap (λ b. cond b (free_to o limit es) (cond (nat_le e.0 o) o (cond (nat_lt e.0 limit) e.0 limit))) (lt-leb e.1.end o ends)) free) ends
+    by (inr ended) more = (inl ended, more (subst (λ n. end ≤ n) (ap (λ b. cond b (free_to o limit es) (cond (nat_le e.0 o) o (cond (nat_lt e.0 limit) e.0 limit))) (le-leb e.1.end o ended)) free))
 
 -- ---- what was read
 
@@ -151,35 +149,31 @@ body_length p sections =
     = length-take-le (p.body_at + p.body_len - p.body_at) (drop p.body_at p.file.now) (omega (arith, length-drop p.body_at p.file.now, sections.body_inside)) in
     size ∙ omega arith
 
-module _ (src : Sections) (holds : HoldsBytes src) (entries : List Entry) (stacked : IsStacked entries) (nodes : List Node) (holder : ℕ) (named : Mention)
-    (large : 32 ≤ named.value) (before : named.value - 32 < holder) (within : holder ≤ length src.body) (none : at (table_of nodes entries) (named.value - 32) ≡ None) where
+module _ (src : Sections) (holds : HoldsBytes src) (done : Table) (stacked : IsStacked done) (holder : ℕ) (named : Mention)
+    (large : 32 ≤ named.value) (before : named.value - 32 < holder) (within : holder ≤ length src.body) (none : at done (named.value - 32) ≡ None) where
   abbrev offset : ℕ
   offset = named.value - 32
 
   abbrev to : ℕ
-  to = free_to offset holder (table_of nodes entries)
+  to = free_to offset holder done
 
   to_within : to ≤ holder
-  to_within = free_within offset holder (table_of nodes entries) (omega (arith, before))
+  to_within = free_within offset holder done (omega (arith, before))
 
   order : offset ≤ to
-  order = free_at_least offset holder (table_of nodes entries) (omega (arith, before))
-
-  abbrev done : Table
-  done = table_of nodes entries
+  order = free_at_least offset holder done (omega (arith, before))
 
   fits : to ≤ length src.body
   fits = omega (arith, to_within, within)
 
   pub begun_whole : (flat : FlatParts) (block : Block) (own : Result (FlatParts × ℕ) ByteFault) → flat_at src (start (window src offset to)) ≡ Ok (flat_spelled flat, ahead_of block)
-      → own ≡ Ok (flat, offset_of src (ahead_of block)) → IsBegun src done entries holder named (record { start = offset; own = own; mentions = block.mentions; known = 0; named = named })
+      → own ≡ Ok (flat, offset_of src (ahead_of block)) → IsBegun src done holder named (record { start = offset; own = own; mentions = block.mentions; known = 0; named = named })
   begun_whole flat block own e own_is =
       let read = whole src (strings_are src holds) (body_is src holds) offset to fits (flat_spelled flat) (ahead_of block) order e in
-      let room : HasRoom offset (offset_of src (ahead_of block)) entries = room_free nodes offset (offset_of src (ahead_of block)) holder entries stacked read.some read.ends in
+      let room : HasRoom offset (offset_of src (ahead_of block)) done = room_free offset (offset_of src (ahead_of block)) holder done stacked read.some read.ends in
       let ends : offset_of src (ahead_of block) ≤ holder = omega (arith, read.ends, to_within) in
       let turn = begins src (length src.body) holder named done (Ok (flat_spelled flat, ahead_of block)) large before (omega (arith, before, within)) none e in
-      let left = begins_left src (length src.body) holder named done (Ok (flat_spelled flat, ahead_of block)) large before (omega (arith, before, within)) none e in
-      subst (λ (x : Result (FlatParts × ℕ) ByteFault). IsBegun src done entries holder named (record { start = offset; own = x; mentions = block.mentions; known = 0; named = named })) (sym own_is)
+      subst (λ (x : Result (FlatParts × ℕ) ByteFault). IsBegun src done holder named (record { start = offset; own = x; mentions = block.mentions; known = 0; named = named })) (sym own_is)
       (record {
         fresh = refl;
         its_mention = refl;
@@ -194,16 +188,14 @@ module _ (src : Sections) (holds : HoldsBytes src) (entries : List Entry) (stack
         };
         below = (before, ends);
         turn = turn;
-        left = left;
       })
 
   pub begun_fault : (block : Block) (f : ByteFault) (own : Result (FlatParts × ℕ) ByteFault) → flat_at src (start (window src offset to)) ≡ Err (record { fault = f; mentions = block.mentions.items })
-      → own ≡ Err f → IsBegun src done entries holder named (record { start = offset; own = own; mentions = block.mentions; known = 0; named = named })
+      → own ≡ Err f → IsBegun src done holder named (record { start = offset; own = own; mentions = block.mentions; known = 0; named = named })
   begun_fault block f own e own_is =
       let few : length block.mentions.items ≤ length src.body = few_mentions src (strings_are src holds) (body_is src holds) offset to fits (record { fault = f; mentions = block.mentions.items }) e in
       let turn = begins src (length src.body) holder named done (Err (record { fault = f; mentions = block.mentions.items })) large before (omega (arith, before, within)) none e in
-      let left = begins_left src (length src.body) holder named done (Err (record { fault = f; mentions = block.mentions.items })) large before (omega (arith, before, within)) none e in
-      subst (λ (x : Result (FlatParts × ℕ) ByteFault). IsBegun src done entries holder named (record { start = offset; own = x; mentions = block.mentions; known = 0; named = named })) (sym own_is)
+      subst (λ (x : Result (FlatParts × ℕ) ByteFault). IsBegun src done holder named (record { start = offset; own = x; mentions = block.mentions; known = 0; named = named })) (sym own_is)
       (record {
         fresh = refl;
         its_mention = refl;
@@ -218,18 +210,17 @@ module _ (src : Sections) (holds : HoldsBytes src) (entries : List Entry) (stack
         };
         below = (before, tt);
         turn = turn;
-        left = left;
       })
 
   -- the same at an offset that is this one
   pub begun_whole_at : (start_at : ℕ) → offset ≡ start_at → (flat : FlatParts) (block : Block) (own : Result (FlatParts × ℕ) ByteFault) → flat_at src (start (window src start_at (free_to start_at holder done))) ≡ Ok (flat_spelled flat, ahead_of block)
-      → own ≡ Ok (flat, offset_of src (ahead_of block)) → IsBegun src done entries holder named (record { start = start_at; own = own; mentions = block.mentions; known = 0; named = named })
+      → own ≡ Ok (flat, offset_of src (ahead_of block)) → IsBegun src done holder named (record { start = start_at; own = own; mentions = block.mentions; known = 0; named = named })
   begun_whole_at start_at same flat block own =
       subst (λ (o : ℕ). flat_at src (start (window src o (free_to o holder done))) ≡ Ok (flat_spelled flat, ahead_of block) → own ≡ Ok (flat, offset_of src (ahead_of block))
-      → IsBegun src done entries holder named (record { start = o; own = own; mentions = block.mentions; known = 0; named = named })) same (begun_whole flat block own)
+      → IsBegun src done holder named (record { start = o; own = own; mentions = block.mentions; known = 0; named = named })) same (begun_whole flat block own)
 
   pub begun_fault_at : (start_at : ℕ) → offset ≡ start_at → (block : Block) (f : ByteFault) (own : Result (FlatParts × ℕ) ByteFault) → flat_at src (start (window src start_at (free_to start_at holder done))) ≡ Err (record { fault = f; mentions = block.mentions.items })
-      → own ≡ Err f → IsBegun src done entries holder named (record { start = start_at; own = own; mentions = block.mentions; known = 0; named = named })
+      → own ≡ Err f → IsBegun src done holder named (record { start = start_at; own = own; mentions = block.mentions; known = 0; named = named })
   begun_fault_at start_at same block f own =
       subst (λ (o : ℕ). flat_at src (start (window src o (free_to o holder done))) ≡ Err (record { fault = f; mentions = block.mentions.items }) → own ≡ Err f
-      → IsBegun src done entries holder named (record { start = o; own = own; mentions = block.mentions; known = 0; named = named })) same (begun_fault block f own)
+      → IsBegun src done holder named (record { start = o; own = own; mentions = block.mentions; known = 0; named = named })) same (begun_fault block f own)

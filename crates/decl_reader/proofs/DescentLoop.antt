@@ -1,5 +1,5 @@
 -- The loop over open descriptors: what it keeps, and that it ends.
-use Rattle.std.proofs.Common.{◌≡◌, ℕ, suc, ◌+◌, ◌-◌, ◌*◌, ◌^◌, ◌<◌, ◌≤◌, List, [], ◌∷◌, ◌++◌, length, map, drop, take, Result, Ok, Err, Option, Some, None, refl, sym, ap, subst, ◌∙◌, arith, append_assoc}
+use Rattle.std.proofs.Common.{◌≡◌, ℕ, suc, ◌+◌, ◌-◌, ◌*◌, ◌^◌, ◌<◌, ◌≤◌, List, [], ◌∷◌, ◌++◌, length, map, drop, take, Result, Ok, Err, Option, Some, None, refl, sym, ap, subst, ◌∙◌, arith}
 use Rattle.std.specs.Prelude.{slice_index_or}
 use Rattle.std.proofs.Math.Seq.{drop-cons, take-suc, drop-length}
 use Rattle.std.proofs.Math.ListN.{drop_of_length-le}
@@ -9,32 +9,19 @@ use Rattle.wire_bytes.specs.declared.fault.ByteFault.{ByteFault}
 use Rattle.wire_bytes.specs.declared.fault.ReadFault.{ReadFault}
 use Rattle.wire_bytes.specs.declared.fault.ReadFault.TheVariants as reading
 use Rattle.wire_bytes.specs.Reading.{◌>>=◌}
-use Rattle.type_terms.specs.declared.descriptors.Node.{Node}
-use Rattle.type_terms.specs.Trees.{Tree}
-use Rattle.type_terms.specs.Arenas.{Contents, Extends}
-use Rattle.type_terms.specs.Extensions.{extends_itself}
-use Rattle.type_terms.specs.Additions.{Covers, AddsOnly, Outgrows}
-use Rattle.type_terms.specs.AdditionLaws.{covers_itself, adds_none, covers_left, covers_right, covers_again, adds_more, additions_join, outgrown_by_more, want_of_nodes_joins}
 use Rattle.decl_spelling.specs.declared.mention.Mention.{Mention}
 use Rattle.decl_spelling.specs.Sections.{Sections}
 use Rattle.decl_spelling.specs.Tables.{Table}
 use Rattle.decl_spelling.specs.Descent.{resolve, resolve_all}
 use Rattle.decl_spelling.specs.KnownTypes.{IsAnswered}
 use Rattle.decl_spelling.proofs.KnownTypeLemmas.{answered_still}
-use Rattle.std.specs.Prelude.{reverse, IsErrOf}
+use Rattle.std.specs.Prelude.{reverse}
 use Rattle.std.proofs.Math.Nat.{one-le-pow, pow-le-pow_right, pow-suc, suc-mul, mul-add, mul_comm, mul-le-mul_right}
 use Rattle.std.proofs.lemmas.List.{reverse-append, reverse-reverse}
 use Rattle.decl_reader.specs.declared.descent.Open.{Open}
-use Rattle.decl_reader.specs.declared.fault.DeclFault.{DeclFault}
-use Rattle.decl_reader.specs.declared.fault.DeclFault.TheVariants.{Bytes, Nodes, OutOfMemory}
-use Rattle.decl_reader.specs.Faults.{of_read}
-use Rattle.decl_reader.specs.Blocks.{Entry, table_of}
 use Rattle.decl_reader.specs.Frames.{closed, closed_by, resume}
-use Rattle.decl_reader.specs.Opens.{IsReady, IsOpen, IsOwn, IsBelow, IsBegun, IsClosed, EndsBefore, AreHolders, Begins, Resolves, reads, resumed, left_resumed, frame_from, frame_of, holder_of, own_shape}
-use Rattle.decl_spelling.specs.Leaving.{if_well}
-use Rattle.decl_reader.specs.Left.{left_closed, left_opened, left_resume, leaves, left_type, left_types}
+use Rattle.decl_reader.specs.Opens.{IsOpen, IsOwn, IsBelow, IsBegun, IsClosed, EndsBefore, AreHolders, Begins, Resolves, reads, resumed, frame_from, frame_of, holder_of, own_shape}
 use Rattle.decl_reader.proofs.ResumeLemmas.{turn_known, turn_fault, turn_opens, turn_closes}
-use Rattle.decl_reader.proofs.LeftLemmas.{onwards, left_turn_known, left_turn_opens, left_turn_closes, left_alone}
 
 -- one more of its mentions is known
 abbrev pub one_more : Open → Open
@@ -65,29 +52,15 @@ all_weight most current holders = open_weight most current + holders_weight most
 
 -- ---- what the loop keeps
 
-pub record Running (src : Sections) (first : Open) (done : Table) (old new : Contents) (entries : List Entry) (current : Open) (holders : List Open) : Type 0 where
-  pub extends : Extends old new
-  pub ready : IsReady (length src.body) (length new.nodes) entries
-  pub is_open : IsOpen src (table_of new.nodes entries) entries current
-  pub holders_are : AreHolders src (table_of new.nodes entries) entries current holders
-  pub same : resumed src current holders (table_of new.nodes entries) ≡ resumed src first [] done
-  pub covers : Covers (left_resumed src first [] done) (left_resumed src current holders (table_of new.nodes entries))
-  pub adds : AddsOnly (left_resumed src first [] done) old new
+pub record Running (src : Sections) (first : Open) (done now : Table) (current : Open) (holders : List Open) : Type 0 where
+  pub is_open : IsOpen src now current
+  pub holders_are : AreHolders src now current holders
+  pub same : resumed src current holders now ≡ resumed src first [] done
 
 -- nothing else is open at first
-pub running_begins : (src : Sections) (first : Open) (old : Contents) (entries : List Entry) (holders : List Open) → holders ≡ [] → IsReady (length src.body) (length old.nodes) entries → IsOpen src (table_of old.nodes entries) entries first
-    → Running src first (table_of old.nodes entries) old old entries first holders
-running_begins src first old entries holders none ready is_open =
-    subst (Running src first (table_of old.nodes entries) old old entries first) (sym none)
-    (record {
-      extends = extends_itself old;
-      ready = ready;
-      is_open = is_open;
-      holders_are = tt;
-      same = refl;
-      covers = covers_itself (left_resumed src first [] (table_of old.nodes entries));
-      adds = adds_none (left_resumed src first [] (table_of old.nodes entries)) old;
-    })
+pub running_begins : (src : Sections) (first : Open) (done : Table) (holders : List Open) → holders ≡ [] → IsOpen src done first → Running src first done done first holders
+running_begins src first done holders none is_open =
+    subst (Running src first done done first) (sym none) (record { is_open = is_open; holders_are = tt; same = refl })
 
 -- the next mention
 more_is : (k : ℕ) → suc k ≡ k + 1
@@ -110,10 +83,7 @@ weaker_all P Q step (m ∷ ms) all = (step m all.0, weaker_all P Q step ms all.1
 
 -- ---- the three turns
 
-module _ (src : Sections) (first : Open) (done : Table) (old new : Contents) (entries : List Entry) (current : Open) (holders : List Open) (d : Mention) where
-  abbrev now : Table
-  now = table_of new.nodes entries
-
+module _ (src : Sections) (first : Open) (done now : Table) (current : Open) (holders : List Open) (d : Mention) where
   abbrev next : Mention
   next = slice_index_or current.mentions.items current.known d
 
@@ -123,7 +93,7 @@ module _ (src : Sections) (first : Open) (done : Table) (old new : Contents) (en
   left_is : current.known < length current.mentions.items → drop current.known current.mentions.items ≡ next ∷ rest
   left_is h = next_is current.mentions.items current.known d h
 
-  one_more_open : IsOpen src now entries current → current.known < length current.mentions.items → IsAnswered src now current.start next → IsOpen src now entries (one_more current)
+  one_more_open : IsOpen src now current → current.known < length current.mentions.items → IsAnswered src now current.start next → IsOpen src now (one_more current)
   one_more_open is h answered = record {
     its_start = is.its_start;
     inside = is.inside;
@@ -134,44 +104,32 @@ module _ (src : Sections) (first : Open) (done : Table) (old new : Contents) (en
     own = is.own;
   }
 
-  holders_for : (inner other : Open) (os : List Open) → inner.named ≡ other.named → ((offset : ℕ) → IsBelow inner offset → IsBelow other offset) → AreHolders src now entries inner os → AreHolders src now entries other os
+  holders_for : (inner other : Open) (os : List Open) → inner.named ≡ other.named → ((offset : ℕ) → IsBelow inner offset → IsBelow other offset) → AreHolders src now inner os → AreHolders src now other os
   holders_for inner other [] named below are = tt
   holders_for inner other (o ∷ os) named below are = (are.0, are.1, subst (λ (m : Mention). drop o.known o.mentions.items ≡ m ∷ drop (o.known + 1) o.mentions.items) named are.2, below o.start are.3, are.4)
 
   -- the next mention is known already
-  pub goes_on : Running src first done old new entries current holders → current.known < length current.mentions.items → (resolve src (reads src) current.start next now ≡ Ok now) × IsAnswered src now current.start next
-      → Running src first done old new entries (one_more current) holders
+  pub goes_on : Running src first done now current holders → current.known < length current.mentions.items → (resolve src (reads src) current.start next now ≡ Ok now) × IsAnswered src now current.start next
+      → Running src first done now (one_more current) holders
   goes_on running h known = record {
-    extends = running.extends;
-    ready = running.ready;
     is_open = one_more_open running.is_open h known.1;
     holders_are = holders_for current (one_more current) holders refl (λ offset below. below) running.holders_are;
     same = sym (turn_known src (reads src) (frame_of current) (map holder_of holders) next rest now (left_is h) known.0) ∙ running.same;
-    covers = covers_again (left_resumed src first [] done) (left_resumed src current holders now) (left_resumed src (one_more current) holders now) running.covers
-        (left_turn_known src (reads src) (leaves src) (frame_of current) (map holder_of holders) next rest now (left_is h) known.0);
-    adds = running.adds;
   }
 
   -- a fault of the next mention
-  pub stops : (f : ByteFault) → Running src first done old new entries current holders → current.known < length current.mentions.items → resolve src (reads src) current.start next now ≡ Err f → resumed src first [] done ≡ Err f
+  pub stops : (f : ByteFault) → Running src first done now current holders → current.known < length current.mentions.items → resolve src (reads src) current.start next now ≡ Err f → resumed src first [] done ≡ Err f
   stops f running h fault = sym running.same ∙ turn_fault src (reads src) (frame_of current) (map holder_of holders) next rest now f (left_is h) fault
 
   -- it names a descriptor that is opened
-  pub opens : (inner : Open) → Running src first done old new entries current holders → current.known < length current.mentions.items → IsBegun src now entries current.start next inner
-      → Running src first done old new entries inner (current ∷ holders)
+  pub opens : (inner : Open) → Running src first done now current holders → current.known < length current.mentions.items → IsBegun src now current.start next inner
+      → Running src first done now inner (current ∷ holders)
   opens inner running h begun = record {
-    extends = running.extends;
-    ready = running.ready;
     is_open = begun.is_open;
     holders_are = (running.is_open, h, left_is h ∙ ap (λ (m : Mention). m ∷ rest) (sym begun.its_mention), begun.below, running.holders_are);
     same = sym (turn_opens src (reads src) (frame_of current) (map holder_of holders) next rest now (frame_of inner) (left_is h) opened) ∙ running.same;
-    covers = subst (Covers (left_resumed src first [] done)) (left_turn_opens src (reads src) (leaves src) (frame_of current) (map holder_of holders) next rest now (frame_of inner) (left_is h) opened left) running.covers;
-    adds = running.adds;
   }
     where
-      left : left_type src current.start next now ≡ left_opened src (reads src) (leaves src) (frame_of inner) now
-      left = begun.left ∙ ap (λ (k : ℕ). left_opened src (reads src) (leaves src) (frame_from k inner) now) (sym begun.fresh)
-
       whole : drop inner.known inner.mentions.items ≡ inner.mentions.items
       whole = ap (λ (k : ℕ). drop k inner.mentions.items) begun.fresh
 
@@ -186,28 +144,15 @@ module _ (src : Sections) (first : Open) (done : Table) (old new : Contents) (en
 drop_all : {X : Type 0} (xs : List X) (k : ℕ) → k ≡ length xs → drop k xs ≡ []
 drop_all {X} xs k h = ap (λ (n : ℕ). drop n xs) h ∙ drop-length xs
 
-module _ (src : Sections) (first : Open) (done : Table) (old mid new : Contents) (before after : List Entry) (current : Open) (extended : Extends mid new) (ready : IsReady (length src.body) (length new.nodes) after) where
-  abbrev was : Table
-  was = table_of mid.nodes before
-
-  abbrev is_now : Table
-  is_now = table_of new.nodes after
-
-  extends_twice : Extends old mid → Extends old new
-  extends_twice first_part = record {
-    more = first_part.more ++ extended.more;
-    nodes = extended.nodes ∙ ap (λ (ns : List Node). ns ++ extended.more) first_part.nodes ∙ append_assoc old.nodes first_part.more extended.more;
-    limit = extended.limit ∙ first_part.limit;
-  }
-
-  room_stays : (o : Open) → IsClosed src was is_now before after current → IsBelow current o.start → IsOwn before o.start o.mentions.items o.own → IsOwn after o.start o.mentions.items o.own
+module _ (src : Sections) (first : Open) (done was is_now : Table) (current : Open) where
+  room_stays : (o : Open) → IsClosed src was is_now current → IsBelow current o.start → IsOwn was o.start o.mentions.items o.own → IsOwn is_now o.start o.mentions.items o.own
   room_stays o is_closed below own = by o.own own
     where
-      by : (own : Result (_ × ℕ) ByteFault) → IsOwn before o.start o.mentions.items own → IsOwn after o.start o.mentions.items own
+      by : (own : Result (_ × ℕ) ByteFault) → IsOwn was o.start o.mentions.items own → IsOwn is_now o.start o.mentions.items own
       by (Ok x) own = (own.0, own.1, own.2, is_closed.room o.start x.1 below own.3)
       by (Err f) own = tt
 
-  open_stays : (o : Open) → IsClosed src was is_now before after current → IsBelow current o.start → IsOpen src was before o → IsOpen src is_now after o
+  open_stays : (o : Open) → IsClosed src was is_now current → IsBelow current o.start → IsOpen src was o → IsOpen src is_now o
   open_stays o is_closed below is = record {
     its_start = is.its_start;
     inside = is.inside;
@@ -225,66 +170,39 @@ module _ (src : Sections) (first : Open) (done : Table) (old mid new : Contents)
       by (Ok x) ends = omega arith
       by (Err f) ends = tt
 
-  holders_stay : (inner : Open) (os : List Open) → IsClosed src was is_now before after current → IsBelow current inner.start → AreHolders src was before inner os → AreHolders src is_now after inner os
+  holders_stay : (inner : Open) (os : List Open) → IsClosed src was is_now current → IsBelow current inner.start → AreHolders src was inner os → AreHolders src is_now inner os
   holders_stay inner [] is_closed below are = tt
   holders_stay inner (o ∷ os) is_closed below are =
       let under : IsBelow current o.start = ends_later inner.start o.start are.3.0 below in
       (open_stays o is_closed under are.0, are.1, are.2, are.3, holders_stay o os is_closed under are.4)
 
   -- nothing is open any more
-  pub ends : Running src first done old mid before current [] → current.known ≡ length current.mentions.items → closed src.version (frame_of current) was ≡ Ok is_now → resumed src first [] done ≡ Ok is_now
+  pub ends : Running src first done was current [] → current.known ≡ length current.mentions.items → closed src.version (frame_of current) was ≡ Ok is_now → resumed src first [] done ≡ Ok is_now
   ends running all finished =
       sym running.same ∙ turn_closes src (reads src) (frame_of current) [] was (drop_all current.mentions.items current.known all)
       ∙ ap (λ (r : Result Table ByteFault). r >>= resume src (reads src) []) finished
 
   -- its fault is the first one
-  pub faults_at : (holders : List Open) (f : ByteFault) → Running src first done old mid before current holders → current.known ≡ length current.mentions.items → closed src.version (frame_of current) was ≡ Err f → resumed src first [] done ≡ Err f
+  pub faults_at : (holders : List Open) (f : ByteFault) → Running src first done was current holders → current.known ≡ length current.mentions.items → closed src.version (frame_of current) was ≡ Err f → resumed src first [] done ≡ Err f
   faults_at holders f running all fault =
       sym running.same ∙ turn_closes src (reads src) (frame_of current) (map holder_of holders) was (drop_all current.mentions.items current.known all)
       ∙ ap (λ (r : Result Table ByteFault). r >>= resume src (reads src) (map holder_of holders)) fault
 
-  -- what it leaves, and then what follows, is what is left
-  closing_covers : (holders : List Open) → Running src first done old mid before current holders → current.known ≡ length current.mentions.items
-      → Covers (left_resumed src first [] done) (onwards src (reads src) (leaves src) (frame_of current) (map holder_of holders) was)
-  closing_covers holders running all =
-      subst (Covers (left_resumed src first [] done)) (left_turn_closes src (reads src) (leaves src) (frame_of current) (map holder_of holders) was (drop_all current.mentions.items current.known all)) running.covers
-
-  its_own_covers : (holders : List Open) → Running src first done old mid before current holders → current.known ≡ length current.mentions.items → Covers (left_resumed src first [] done) (left_closed src.version (frame_of current) was)
-  its_own_covers holders running all =
-      covers_again (left_resumed src first [] done) (onwards src (reads src) (leaves src) (frame_of current) (map holder_of holders) was) (left_closed src.version (frame_of current) was) (closing_covers holders running all)
-      (covers_left (left_closed src.version (frame_of current) was) (if_well (closed src.version (frame_of current) was) (left_resume src (reads src) (leaves src) (map holder_of holders))))
-
-  pub closing_adds : (holders : List Open) → Running src first done old mid before current holders → current.known ≡ length current.mentions.items → AddsOnly (left_closed src.version (frame_of current) was) mid new
-      → AddsOnly (left_resumed src first [] done) old new
-  closing_adds holders running all adds =
-      additions_join old mid new (left_resumed src first [] done) running.adds extended (adds_more (left_resumed src first [] done) (left_closed src.version (frame_of current) was) mid new (its_own_covers holders running all) adds)
-
-  pub closing_outgrown : (holders : List Open) → Running src first done old mid before current holders → current.known ≡ length current.mentions.items → Outgrows mid (left_closed src.version (frame_of current) was)
-      → Outgrows old (left_resumed src first [] done)
-  closing_outgrown holders running all outgrown =
-      want_of_nodes_joins old mid (left_resumed src first [] done) running.extends running.adds (outgrown_by_more mid (left_resumed src first [] done) (left_closed src.version (frame_of current) was) (its_own_covers holders running all) outgrown)
-
   -- its holder goes on
-  pub returns_to : (holder : Open) (holders : List Open) → Running src first done old mid before current (holder ∷ holders) → current.known ≡ length current.mentions.items → closed src.version (frame_of current) was ≡ Ok is_now
-      → IsClosed src was is_now before after current → AddsOnly (left_closed src.version (frame_of current) was) mid new → Running src first done old new after (one_more holder) holders
-  returns_to holder holders running all finished is_closed adds =
+  pub returns_to : (holder : Open) (holders : List Open) → Running src first done was current (holder ∷ holders) → current.known ≡ length current.mentions.items → closed src.version (frame_of current) was ≡ Ok is_now
+      → IsClosed src was is_now current → Running src first done is_now (one_more holder) holders
+  returns_to holder holders running all finished is_closed =
       let are = running.holders_are in
-      let stays : IsOpen src is_now after holder = open_stays holder is_closed are.3 are.0 in
+      let stays : IsOpen src is_now holder = open_stays holder is_closed are.3 are.0 in
       let named : slice_index_or holder.mentions.items holder.known current.named ≡ current.named
       = head_is (sym (next_is holder.mentions.items holder.known current.named are.1) ∙ are.2) in
       record {
-        extends = extends_twice running.extends;
-        ready = ready;
-        is_open = one_more_open src first done old new after holder holders current.named stays are.1 (subst (IsAnswered src is_now holder.start) (sym named) (is_closed.answered holder.start are.3));
-        holders_are = holders_for src first done old new after holder holders current.named holder (one_more holder) holders refl (λ offset below. below) (holders_stay holder holders is_closed are.3 are.4);
+        is_open = one_more_open src first done is_now holder holders current.named stays are.1 (subst (IsAnswered src is_now holder.start) (sym named) (is_closed.answered holder.start are.3));
+        holders_are = holders_for src first done is_now holder holders current.named holder (one_more holder) holders refl (λ offset below. below) (holders_stay holder holders is_closed are.3 are.4);
         same =
             sym (turn_closes src (reads src) (frame_of current) (holder_of holder ∷ map holder_of holders) was (drop_all current.mentions.items current.known all)
             ∙ ap (λ (r : Result Table ByteFault). r >>= resume src (reads src) (holder_of holder ∷ map holder_of holders)) finished)
             ∙ running.same;
-        covers = covers_again (left_resumed src first [] done) (left_closed src.version (frame_of current) was ++ left_resume src (reads src) (leaves src) (holder_of holder ∷ map holder_of holders) is_now) (left_resumed src (one_more holder) holders is_now)
-            (subst (λ (r : Result Table ByteFault). Covers (left_resumed src first [] done) (left_closed src.version (frame_of current) was ++ if_well r (left_resume src (reads src) (leaves src) (holder_of holder ∷ map holder_of holders)))) finished (closing_covers (holder ∷ holders) running all))
-            (covers_right (left_closed src.version (frame_of current) was) (left_resume src (reads src) (leaves src) (holder_of holder ∷ map holder_of holders) is_now));
-        adds = closing_adds (holder ∷ holders) running all adds;
       }
     where
       head_is : {x y : Mention} {xs ys : List Mention} → x ∷ xs ≡ y ∷ ys → x ≡ y
@@ -332,36 +250,32 @@ opens_smaller most inner o os h below fresh few =
 pub last_first : {X : Type 0} (xs : List X) (x : X) → reverse (xs ++ x ∷ []) ≡ x ∷ reverse xs
 last_first xs x = reverse-append xs (x ∷ [])
 
-pub begin_fault : (src : Sections) (first : Open) (done : Table) (old new : Contents) (entries : List Entry) (current : Open) (holders : List Open) (d : Mention) (e : ReadFault) (t : Table)
-    → Running src first done old new entries current holders → current.known < length current.mentions.items
-    → Begins src (table_of new.nodes entries) entries current.start (slice_index_or current.mentions.items current.known d) (Err e) → Resolves (Err (of_read e)) t (resumed src first [] done)
-begin_fault src first done old new entries current holders d (reading.Bytes f) t running h begins = stops src first done old new entries current holders d f running h begins
-begin_fault src first done old new entries current holders d reading.OutOfMemory t running h begins = tt
+begin_fault : (src : Sections) (first : Open) (done now : Table) (current : Open) (holders : List Open) (d : Mention) (e : ReadFault) (t : Table) → Running src first done now current holders → current.known < length current.mentions.items
+    → Begins src now current.start (slice_index_or current.mentions.items current.known d) (Err e) → Resolves (Err e) t (resumed src first [] done)
+begin_fault src first done now current holders d (reading.Bytes f) t running h begins = stops src first done now current holders d f running h begins
+begin_fault src first done now current holders d reading.OutOfMemory t running h begins = tt
 
 -- ---- the turns, at the mention that the code has in hand
 
-module _ (src : Sections) (first : Open) (done : Table) (old new : Contents) (entries : List Entry) (current : Open) (holders : List Open) (named : Mention)
-    (is : named ≡ slice_index_or current.mentions.items current.known named) (running : Running src first done old new entries current holders) (h : current.known < length current.mentions.items) where
-  abbrev present : Table
-  present = table_of new.nodes entries
+module _ (src : Sections) (first : Open) (done now : Table) (current : Open) (holders : List Open) (named : Mention) (is : named ≡ slice_index_or current.mentions.items current.known named) (running : Running src first done now current holders)
+    (h : current.known < length current.mentions.items) where
+  begins_at : (r : Result (Option Open) ReadFault) → Begins src now current.start named r → Begins src now current.start (slice_index_or current.mentions.items current.known named) r
+  begins_at r begins = subst (λ (m : Mention). Begins src now current.start m r) is begins
 
-  begins_at : (r : Result (Option Open) ReadFault) → Begins src present entries current.start named r → Begins src present entries current.start (slice_index_or current.mentions.items current.known named) r
-  begins_at r begins = subst (λ (m : Mention). Begins src present entries current.start m r) is begins
-
-  pub none_goes_on : (a : Option Open) → a ≡ None → Begins src present entries current.start named (Ok a) → Running src first done old new entries (one_more current) holders
+  pub none_goes_on : (a : Option Open) → a ≡ None → Begins src now current.start named (Ok a) → Running src first done now (one_more current) holders
   none_goes_on a none begins =
-      goes_on src first done old new entries current holders named running h (subst (λ (x : Option Open). Begins src present entries current.start (slice_index_or current.mentions.items current.known named) (Ok x)) none (begins_at (Ok a) begins))
+      goes_on src first done now current holders named running h (subst (λ (x : Option Open). Begins src now current.start (slice_index_or current.mentions.items current.known named) (Ok x)) none (begins_at (Ok a) begins))
 
-  some_begun : (a : Option Open) (inner : Open) → a ≡ Some inner → Begins src present entries current.start named (Ok a) → IsBegun src present entries current.start (slice_index_or current.mentions.items current.known named) inner
-  some_begun a inner some begins = subst (λ (x : Option Open). Begins src present entries current.start (slice_index_or current.mentions.items current.known named) (Ok x)) some (begins_at (Ok a) begins)
+  some_begun : (a : Option Open) (inner : Open) → a ≡ Some inner → Begins src now current.start named (Ok a) → IsBegun src now current.start (slice_index_or current.mentions.items current.known named) inner
+  some_begun a inner some begins = subst (λ (x : Option Open). Begins src now current.start (slice_index_or current.mentions.items current.known named) (Ok x)) some (begins_at (Ok a) begins)
 
-  pub some_opens : (a : Option Open) (inner : Open) (pushed : List Open) → a ≡ Some inner → Begins src present entries current.start named (Ok a) → pushed ≡ reverse holders ++ current ∷ [] → Running src first done old new entries inner (reverse pushed)
+  pub some_opens : (a : Option Open) (inner : Open) (pushed : List Open) → a ≡ Some inner → Begins src now current.start named (Ok a) → pushed ≡ reverse holders ++ current ∷ [] → Running src first done now inner (reverse pushed)
   some_opens a inner pushed some begins is_pushed =
-      subst (λ (os : List Open). Running src first done old new entries inner os)
+      subst (λ (os : List Open). Running src first done now inner os)
       (sym (ap reverse is_pushed ∙ last_first (reverse holders) current ∙ ap (λ (os : List Open). current ∷ os) (reverse-reverse holders)))
-      (opens src first done old new entries current holders named inner running h (some_begun a inner some begins))
+      (opens src first done now current holders named inner running h (some_begun a inner some begins))
 
-  pub some_smaller : (a : Option Open) (inner : Open) (pushed : List Open) → a ≡ Some inner → Begins src present entries current.start named (Ok a) → pushed ≡ reverse holders ++ current ∷ []
+  pub some_smaller : (a : Option Open) (inner : Open) (pushed : List Open) → a ≡ Some inner → Begins src now current.start named (Ok a) → pushed ≡ reverse holders ++ current ∷ []
       → all_weight (length src.body) inner (reverse pushed) < all_weight (length src.body) current holders
   some_smaller a inner pushed some begins is_pushed =
       let begun = some_begun a inner some begins in
@@ -369,13 +283,8 @@ module _ (src : Sections) (first : Open) (done : Table) (old new : Contents) (en
       (sym (ap reverse is_pushed ∙ last_first (reverse holders) current ∙ ap (λ (os : List Open). current ∷ os) (reverse-reverse holders)))
       (opens_smaller (length src.body) inner current holders h begun.below.0 begun.fresh begun.is_open.few)
 
-  pub fault_resolves : (e : ReadFault) (t : Table) → Begins src present entries current.start named (Err e) → Resolves (Err (of_read e)) t (resumed src first [] done)
-  fault_resolves e t begins = begin_fault src first done old new entries current holders named e t running h (begins_at (Err e) begins)
-
--- reading bytes adds no node
-pub never_full : {X : Type 0} (r : Result X DeclFault) (e : ReadFault) → r ≡ Err (of_read e) → IsErrOf r Nodes → ⊥
-never_full r (reading.Bytes f) is full = let no = sym is ∙ full in absurd cc
-never_full r reading.OutOfMemory is full = let no = sym is ∙ full in absurd cc
+  pub fault_resolves : (e : ReadFault) (t : Table) → Begins src now current.start named (Err e) → Resolves (Err e) t (resumed src first [] done)
+  fault_resolves e t begins = begin_fault src first done now current holders named e t running h (begins_at (Err e) begins)
 
 -- ---- what a block names, one mention after the other
 
@@ -384,79 +293,34 @@ then_done (Ok x) = refl
 then_done (Err f) = refl
 
 -- a descriptor that was just opened comes to what its mention does
-pub begun_is : (src : Sections) (done : Table) (entries : List Entry) (holder : ℕ) (named : Mention) (inner : Open) → IsBegun src done entries holder named inner → resumed src inner [] done ≡ resolve src (reads src) holder named done
-begun_is src done entries holder named inner begun =
+pub begun_is : (src : Sections) (done : Table) (holder : ℕ) (named : Mention) (inner : Open) → IsBegun src done holder named inner → resumed src inner [] done ≡ resolve src (reads src) holder named done
+begun_is src done holder named inner begun =
     bind_same (resolve_all src (reads src) inner.start (drop inner.known inner.mentions.items) done) (λ known. closed src.version (frame_of inner) known >>= λ after. Ok after) (closed src.version (frame_of inner)) (λ known. then_done (closed src.version (frame_of inner) known))
     ∙ ap (λ (k : ℕ). resolve_all src (reads src) inner.start (drop k inner.mentions.items) done >>= closed_by src.version inner.start inner.named (own_shape inner.own)) begun.fresh
     ∙ ap (λ (m : Mention). resolve_all src (reads src) inner.start inner.mentions.items done >>= closed_by src.version inner.start m (own_shape inner.own)) begun.its_mention
     ∙ sym begun.turn
 
--- and leaves what its mention does
-pub begun_left : (src : Sections) (done : Table) (entries : List Entry) (holder : ℕ) (named : Mention) (inner : Open) → IsBegun src done entries holder named inner → left_resumed src inner [] done ≡ left_type src holder named done
-begun_left src done entries holder named inner begun =
-    left_alone src (reads src) (leaves src) (frame_of inner) done
-    ∙ ap (λ (k : ℕ). left_opened src (reads src) (leaves src) (frame_from k inner) done) begun.fresh
-    ∙ sym begun.left
-
-pub resolves_as : (r : Result (Unit {0}) DeclFault) (t : Table) (a b : Result Table ByteFault) → a ≡ b → Resolves r t a → Resolves r t b
+pub resolves_as : (r : Result (Unit {0}) ReadFault) (t : Table) (a b : Result Table ByteFault) → a ≡ b → Resolves r t a → Resolves r t b
 resolves_as r t a b same is = subst (λ (x : Result Table ByteFault). Resolves r t x) same is
 
-pub record Reading (src : Sections) (holder : ℕ) (mentions : List Mention) (done : Table) (old new : Contents) (entries : List Entry) (index : ℕ) : Type 0 where
-  pub extends : Extends old new
-  pub ready : IsReady (length src.body) (length new.nodes) entries
-  pub same : resolve_all src (reads src) holder (drop index mentions) (table_of new.nodes entries) ≡ resolve_all src (reads src) holder mentions done
-  pub covers : Covers (left_types src holder mentions done) (left_types src holder (drop index mentions) (table_of new.nodes entries))
-  pub adds : AddsOnly (left_types src holder mentions done) old new
+-- What is still to be read comes to what was asked.
+abbrev pub Reading : Sections → ℕ → List Mention → Table → Table → ℕ → Type 0
+Reading src holder mentions done now index = resolve_all src (reads src) holder (drop index mentions) now ≡ resolve_all src (reads src) holder mentions done
 
-module _ (src : Sections) (holder : ℕ) (mentions : List Mention) (done : Table) (old mid : Contents) (before : List Entry) (index : ℕ) (d : Mention) (reading : Reading src holder mentions done old mid before index) (h : index < length mentions) where
+module _ (src : Sections) (holder : ℕ) (mentions : List Mention) (done was : Table) (index : ℕ) (d : Mention) (so_far : Reading src holder mentions done was index) (h : index < length mentions) where
   abbrev mention : Mention
   mention = slice_index_or mentions index d
 
-  first_of : resolve_all src (reads src) holder (drop index mentions) (table_of mid.nodes before) ≡ (resolve src (reads src) holder mention (table_of mid.nodes before) >>= resolve_all src (reads src) holder (drop (index + 1) mentions))
-  first_of = ap (λ (ms : List Mention). resolve_all src (reads src) holder ms (table_of mid.nodes before)) (next_is mentions index d h)
+  first_of : resolve_all src (reads src) holder (drop index mentions) was ≡ (resolve src (reads src) holder mention was >>= resolve_all src (reads src) holder (drop (index + 1) mentions))
+  first_of = ap (λ (ms : List Mention). resolve_all src (reads src) holder ms was) (next_is mentions index d h)
 
-  abbrev whole : List Tree
-  whole = left_types src holder mentions done
+  pub reads_on : (is_now : Table) → resolve src (reads src) holder mention was ≡ Ok is_now → Reading src holder mentions done is_now (index + 1)
+  reads_on is_now known = sym (first_of ∙ ap (λ (r : Result Table ByteFault). r >>= resolve_all src (reads src) holder (drop (index + 1) mentions)) known) ∙ so_far
 
-  abbrev here : List Tree
-  here = left_type src holder mention (table_of mid.nodes before)
+  pub reading_stops : (e : ReadFault) (t : Table) → Resolves (Err e) t (resolve src (reads src) holder mention was) → Resolves (Err e) t (resolve_all src (reads src) holder mentions done)
+  reading_stops (reading.Bytes f) t fault = sym so_far ∙ first_of ∙ ap (λ (r : Result Table ByteFault). r >>= resolve_all src (reads src) holder (drop (index + 1) mentions)) fault
+  reading_stops reading.OutOfMemory t fault = tt
 
-  abbrev later : Table → List Tree
-  later known = left_types src holder (drop (index + 1) mentions) known
-
-  first_covers : Covers whole (here ++ if_well (resolve src (reads src) holder mention (table_of mid.nodes before)) later)
-  first_covers = subst (Covers whole) (ap (λ (ms : List Mention). left_types src holder ms (table_of mid.nodes before)) (next_is mentions index d h)) reading.covers
-
-  here_covers : Covers whole here
-  here_covers = covers_again whole (here ++ if_well (resolve src (reads src) holder mention (table_of mid.nodes before)) later) here first_covers (covers_left here (if_well (resolve src (reads src) holder mention (table_of mid.nodes before)) later))
-
-  -- what the mention adds, and that it wants a node, is so of all
-  pub mention_adds : (new : Contents) → Extends mid new → AddsOnly here mid new → AddsOnly whole old new
-  mention_adds new extended adds = additions_join old mid new whole reading.adds extended (adds_more whole here mid new here_covers adds)
-
-  pub mention_outgrown : Outgrows mid here → Outgrows old whole
-  mention_outgrown outgrown = want_of_nodes_joins old mid whole reading.extends reading.adds (outgrown_by_more mid whole here here_covers outgrown)
-
-  pub reads_on : (new : Contents) (after : List Entry) → Extends mid new → IsReady (length src.body) (length new.nodes) after → resolve src (reads src) holder mention (table_of mid.nodes before) ≡ Ok (table_of new.nodes after) → AddsOnly here mid new
-      → Reading src holder mentions done old new after (index + 1)
-  reads_on new after extended ready known adds = record {
-    extends = record {
-      more = reading.extends.more ++ extended.more;
-      nodes = extended.nodes ∙ ap (λ (ns : List Node). ns ++ extended.more) reading.extends.nodes ∙ append_assoc old.nodes reading.extends.more extended.more;
-      limit = extended.limit ∙ reading.extends.limit;
-    };
-    ready = ready;
-    same = sym (first_of ∙ ap (λ (r : Result Table ByteFault). r >>= resolve_all src (reads src) holder (drop (index + 1) mentions)) known) ∙ reading.same;
-    covers = covers_again whole (here ++ later (table_of new.nodes after)) (later (table_of new.nodes after)) (subst (λ (r : Result Table ByteFault). Covers whole (here ++ if_well r later)) known first_covers) (covers_right here (later (table_of new.nodes after)));
-    adds = mention_adds new extended adds;
-  }
-
-  pub reading_stops : (e : DeclFault) (t : Table) → Resolves (Err e) t (resolve src (reads src) holder mention (table_of mid.nodes before)) → Resolves (Err e) t (resolve_all src (reads src) holder mentions done)
-  reading_stops (Bytes f) t fault = sym reading.same ∙ first_of ∙ ap (λ (r : Result Table ByteFault). r >>= resolve_all src (reads src) holder (drop (index + 1) mentions)) fault
-  reading_stops Nodes t fault = tt
-  reading_stops OutOfMemory t fault = tt
-
-pub reading_ends : (src : Sections) (holder : ℕ) (mentions : List Mention) (done : Table) (old new : Contents) (entries : List Entry) (index : ℕ) → Reading src holder mentions done old new entries index → length mentions ≤ index
-    → resolve_all src (reads src) holder mentions done ≡ Ok (table_of new.nodes entries)
-reading_ends src holder mentions done old new entries index reading h =
-    sym reading.same ∙ ap (λ (ms : List Mention). resolve_all src (reads src) holder ms (table_of new.nodes entries)) (drop_of_length-le mentions h)
+pub reading_ends : (src : Sections) (holder : ℕ) (mentions : List Mention) (done now : Table) (index : ℕ) → Reading src holder mentions done now index → length mentions ≤ index → resolve_all src (reads src) holder mentions done ≡ Ok now
+reading_ends src holder mentions done now index so_far h =
+    sym so_far ∙ ap (λ (ms : List Mention). resolve_all src (reads src) holder ms now) (drop_of_length-le mentions h)

@@ -2,14 +2,17 @@
 use Rattle.std.proofs.Common.{◌≡◌, ℕ, ◌≤◌, Bool, true, false, List, [], length, Result, Ok, Err, None, refl, sym, ap, subst, ◌∙◌, arith}
 use Rattle.std.specs.Prelude.{IfOk, IfErr}
 use Rattle.wire_bytes.specs.declared.fault.ByteFault.{ByteFault}
+use Rattle.wire_bytes.specs.declared.fault.ReadFault.{ReadFault}
+use Rattle.wire_bytes.specs.declared.fault.ReadFault.TheVariants as reading
 use Rattle.wire_bytes.specs.Reading.{◌>>=◌}
 use Rattle.type_terms.specs.declared.descriptors.Node.{Node}
 use Rattle.type_terms.specs.declared.declarations.DeclNode.{DeclNode}
-use Rattle.type_terms.specs.Declarations.{Decl, constant_of}
+use Rattle.type_terms.specs.Declarations.{Decl, constant_of, form_map, form_types}
 use Rattle.type_terms.specs.Declarations.{decl_of}
 use Rattle.decl_spelling.specs.declared.mention.Mention.{Mention}
 use Rattle.decl_spelling.specs.Sections.{Sections, Basics, HoldsBytes, window}
-use Rattle.decl_spelling.specs.Spelled.{SpelledPos, SpelledType}
+use Rattle.decl_spelling.specs.Spelled.{SpelledPos, SpelledType, form_meant}
+use Rattle.decl_spelling.specs.Leaving.{types_by, types_read}
 use Rattle.decl_spelling.specs.Reading.{Ahead, Stopped, start}
 use Rattle.decl_spelling.specs.Tables.{Table, at, type_spelled}
 use Rattle.decl_spelling.specs.Descent.{block_at, resolve_all}
@@ -31,9 +34,12 @@ use Rattle.block_reader.specs.Parts.{head_spelled, value_spelled}
 use Rattle.decl_reader.specs.Forms.{IsUpToTypes}
 use Rattle.decl_reader.specs.declared.fault.DeclFault.{DeclFault}
 use Rattle.decl_reader.specs.declared.fault.DeclFault.TheVariants.{Bytes, Nodes, OutOfMemory}
-use Rattle.decl_reader.specs.Faults.{IsNoFault}
+use Rattle.decl_reader.specs.declared.finished.Descriptor.{Descriptor}
+use Rattle.decl_reader.specs.Faults.{IsNoFault, of_read}
+use Rattle.decl_reader.specs.Finished.{known_of}
+use Rattle.decl_reader.specs.Meant.{decl_by}
 use Rattle.decl_reader.specs.Opens.{reads, Resolves}
-use Rattle.decl_reader.specs.Wholes.{FaultIs, IfFault, ReadsDecl, all_known, methods_by, value_by}
+use Rattle.decl_reader.specs.Wholes.{FaultIs, IfFault, IsRead, ReadsDecl, all_known, methods_by, value_by}
 
 -- ---- types
 
@@ -51,27 +57,23 @@ module _ {X : Type 0} (src : Sections) (offset : ℕ) (part : Result (X × Ahead
   pub part_fault : (s : Stopped) (known : Table) → part ≡ Err s → resolve_all src (block_at src offset) offset s.mentions done ≡ Ok known → resolved src offset part done ≡ Err s.fault
   part_fault s known is types = rw is (rw types refl)
 
-  pub types_fault : (x : X) (a : Ahead) (t : Table) (e : DeclFault) → part ≡ Ok (x, a) → Resolves (Err e) t (resolve_all src (block_at src offset) offset a.mentions done) → FaultIs e (resolved src offset part done)
-  types_fault x a t (Bytes f) is types = rw is (rw types refl)
-  types_fault x a t Nodes is types = tt
-  types_fault x a t OutOfMemory is types = tt
+  pub types_fault : (x : X) (a : Ahead) (t : Table) (e : ReadFault) → part ≡ Ok (x, a) → Resolves (Err e) t (resolve_all src (block_at src offset) offset a.mentions done) → FaultIs e (resolved src offset part done)
+  types_fault x a t (reading.Bytes f) is types = rw is (rw types refl)
+  types_fault x a t reading.OutOfMemory is types = tt
 
-  pub types_fault_first : (s : Stopped) (t : Table) (e : DeclFault) → part ≡ Err s → Resolves (Err e) t (resolve_all src (block_at src offset) offset s.mentions done) → FaultIs e (resolved src offset part done)
-  types_fault_first s t (Bytes f) is types = rw is (rw types refl)
-  types_fault_first s t Nodes is types = tt
-  types_fault_first s t OutOfMemory is types = tt
+  pub types_fault_first : (s : Stopped) (t : Table) (e : ReadFault) → part ≡ Err s → Resolves (Err e) t (resolve_all src (block_at src offset) offset s.mentions done) → FaultIs e (resolved src offset part done)
+  types_fault_first s t (reading.Bytes f) is types = rw is (rw types refl)
+  types_fault_first s t reading.OutOfMemory is types = tt
 
 -- ---- what comes after a step
 
-pub then_fault : {A B : Type 0} (r : Result A ByteFault) (f : A → Result B ByteFault) (e : DeclFault) → FaultIs e r → FaultIs e (r >>= f)
-then_fault r f (Bytes fault) is = ap (λ r. r >>= f) is
-then_fault r f Nodes is = tt
-then_fault r f OutOfMemory is = tt
+pub then_fault : {A B : Type 0} (r : Result A ByteFault) (f : A → Result B ByteFault) (e : ReadFault) → FaultIs e r → FaultIs e (r >>= f)
+then_fault r f (reading.Bytes fault) is = ap (λ r. r >>= f) is
+then_fault r f reading.OutOfMemory is = tt
 
-pub fault_as : {A : Type 0} (a b : Result A ByteFault) (e : DeclFault) → a ≡ b → FaultIs e a → FaultIs e b
-fault_as a b (Bytes fault) same is = sym same ∙ is
-fault_as a b Nodes same is = tt
-fault_as a b OutOfMemory same is = tt
+pub fault_as : {A : Type 0} (a b : Result A ByteFault) (e : ReadFault) → a ≡ b → FaultIs e a → FaultIs e b
+fault_as a b (reading.Bytes fault) same is = sym same ∙ is
+fault_as a b reading.OutOfMemory same is = tt
 
 pub bind_twice : {A B C : Type 0} (r : Result A ByteFault) (f : A → Result B ByteFault) (g : B → Result C ByteFault) → (r >>= f >>= g) ≡ (r >>= λ x. f x >>= g)
 bind_twice (Ok x) f g = refl
@@ -96,10 +98,9 @@ module _ (src : Sections) (basics : Basics) (offset : ℕ) where
   abbrev pub first_part : Result ((Head × Ahead) × Table) ByteFault
   first_part = resolved src offset (head_at src (start (window src offset (length src.body)))) []
 
-  pub first_faults : (e : DeclFault) → FaultIs e first_part → FaultIs e (decl_at src basics offset)
+  pub first_faults : (e : ReadFault) → FaultIs e first_part → FaultIs e (read_at src basics offset)
   unfolding read_at
-  first_faults e is =
-      then_fault (read_at src basics offset) (λ x. Ok (decl_read src x)) e (then_fault first_part (λ head. after_head src basics offset (head.0).0 (head.0).1 head.1) e is)
+  first_faults e is = then_fault first_part (λ head. after_head src basics offset (head.0).0 (head.0).1 head.1) e is
 
   both_parts : (head : Head) (a : Ahead) (known : Table) → first_part ≡ Ok ((head, a), known) → after_head src basics offset head a known ≡ read_at src basics offset
   unfolding read_at
@@ -108,13 +109,8 @@ module _ (src : Sections) (basics : Basics) (offset : ℕ) where
   pub whole_read : (head : Head) (a : Ahead) (known : Table) (x : Read) → first_part ≡ Ok ((head, a), known) → after_head src basics offset head a known ≡ Ok x → read_at src basics offset ≡ Ok x
   whole_read head a known x is rest = sym (both_parts head a known is) ∙ rest
 
-  pub rest_faults : (head : Head) (a : Ahead) (known : Table) (e : DeclFault) → first_part ≡ Ok ((head, a), known) → FaultIs e (after_head src basics offset head a known) → FaultIs e (decl_at src basics offset)
-  rest_faults head a known e is rest =
-      then_fault (read_at src basics offset) (λ x. Ok (decl_read src x)) e (fault_as (after_head src basics offset head a known) (read_at src basics offset) e (both_parts head a known is) rest)
-
-  pub whole_is : (head : Head) (a : Ahead) (known : Table) (x : Read) (d : Decl) → first_part ≡ Ok ((head, a), known) → after_head src basics offset head a known ≡ Ok x → d ≡ decl_read src x → decl_at src basics offset ≡ Ok d
-  whole_is head a known x d is rest means =
-      ap (λ (r : Result Read ByteFault). r >>= λ x. Ok (decl_read src x)) (sym (both_parts head a known is) ∙ rest) ∙ ap (λ (y : Decl). Ok y) (sym means)
+  pub rest_faults : (head : Head) (a : Ahead) (known : Table) (e : ReadFault) → first_part ≡ Ok ((head, a), known) → FaultIs e (after_head src basics offset head a known) → FaultIs e (read_at src basics offset)
+  rest_faults head a known e is rest = fault_as (after_head src basics offset head a known) (read_at src basics offset) e (both_parts head a known is) rest
 
   -- where the head of a declaration is read from
   pub first_is : (a : Ahead) (done : Table) (to : ℕ) → a ≡ start (window src offset to) → length src.body ≡ to → done ≡ [] → resolved src offset (head_at src a) done ≡ first_part
@@ -122,13 +118,29 @@ module _ (src : Sections) (basics : Basics) (offset : ℕ) where
       ap (λ (b : Ahead). resolved src offset (head_at src b) done) (at ∙ ap (λ (n : ℕ). start (window src offset n)) (sym size))
       ∙ ap (λ (t : Table). resolved src offset (head_at src (start (window src offset (length src.body)))) t) none
 
+-- a fault of what is read is one of the declaration, and what was read is the declaration
+module _ (src : Sections) (basics : Basics) (offset : ℕ) where
+  pub fault_kept : (nodes : List Node) (r : Result DeclNode DeclFault) (e : ReadFault) → r ≡ Err (of_read e) → FaultIs e (read_at src basics offset) → ReadsDecl r nodes (decl_at src basics offset)
+  fault_kept nodes r (reading.Bytes f) is read = subst (λ (x : Result DeclNode DeclFault). ReadsDecl x nodes (decl_at src basics offset)) (sym is) (ap (λ (x : Result Read ByteFault). x >>= λ y. Ok (decl_read src y)) read)
+  fault_kept nodes r reading.OutOfMemory is read = subst (λ (x : Result DeclNode DeclFault). ReadsDecl x nodes (decl_at src basics offset)) (sym is) tt
+
+  decl_is : (parts : DeclParts) (ds : List Descriptor) → IsRead src basics offset parts ds → decl_at src basics offset ≡ Ok (decl_by src.version (known_of src.version ds) parts)
+  decl_is parts ds read =
+      let form = read.form in
+      let table = read.table in
+      ap (λ (x : Result Read ByteFault). x >>= λ y. Ok (decl_read src y)) read.is
+      ∙ (λ i. Ok (form_meant (form_map (λ pos. pos) (λ text. text) (type_spelled src.version (table i)) (form i))))
+
+  pub types_are : (parts : DeclParts) (ds : List Descriptor) → IsRead src basics offset parts ds → types_read src basics offset ≡ form_types (decl_by src.version (known_of src.version ds) parts)
+  types_are parts ds read = ap (types_by src offset) (decl_is parts ds read)
+
   -- what was read, with its types as nodes
-  pub kept_is : (head : Head) (a : Ahead) (known : Table) (x : Read) (nodes : List Node) (r : Result DeclNode DeclFault) → first_part ≡ Ok ((head, a), known) → after_head src basics offset head a known ≡ Ok x
-      → IfOk r (λ node. decl_of nodes node ≡ decl_read src x) → IfErr r IsNoFault → ReadsDecl r nodes (decl_at src basics offset)
-  kept_is head a known x nodes (Ok node) first rest means none = whole_is head a known x (decl_of nodes node) first rest means
-  kept_is head a known x nodes (Err (Bytes f)) first rest means none = absurd none
-  kept_is head a known x nodes (Err Nodes) first rest means none = tt
-  kept_is head a known x nodes (Err OutOfMemory) first rest means none = tt
+  pub kept_is : (parts : DeclParts) (ds : List Descriptor) (nodes : List Node) (r : Result DeclNode DeclFault) → IsRead src basics offset parts ds
+      → IfOk r (λ node. decl_of nodes node ≡ decl_by src.version (known_of src.version ds) parts) → IfErr r IsNoFault → ReadsDecl r nodes (decl_at src basics offset)
+  kept_is parts ds nodes (Ok node) read means none = decl_is parts ds read ∙ ap (λ (d : Decl). Ok d) (sym means)
+  kept_is parts ds nodes (Err (Bytes f)) read means none = absurd none
+  kept_is parts ds nodes (Err Nodes) read means none = tt
+  kept_is parts ds nodes (Err OutOfMemory) read means none = tt
 
 -- No head is a whole constant, since none stands there.
 module _ (src : Sections) (holds : HoldsBytes src) (offset to : ℕ) (head : DeclHead) (a b : Ahead) (done known : Table) (at : a ≡ start (window src offset to)) where

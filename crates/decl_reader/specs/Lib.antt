@@ -4,9 +4,10 @@ pub mod Shapes
 pub mod Forms
 pub mod Leads
 pub mod Blocks
+pub mod Meant
+pub mod Finished
+pub mod Places
 pub mod Frames
-pub mod Left
 pub mod Opens
 pub mod Progress
-pub mod Meant
 pub mod Wholes

@@ -60,10 +60,12 @@ IsGenericFlat version done (instance_of base args) =
 IsGenericFlat version done _ = Unit {0}
 
 -- what a declaration that was read means, with the types that its numbers name
+abbrev pub decl_by : ℕ → Table → DeclParts → Decl
+decl_by version done parts =
+    form_meant (form_map (λ pos. pos) (λ text. text) (type_spelled version done) (form_spelled parts))
+
 abbrev pub decl_named : ℕ → List Node → List Entry → DeclParts → Decl
-decl_named version nodes entries parts =
-    form_meant
-    (form_map (λ pos. pos) (λ text. text) (type_spelled version (table_of nodes entries)) (form_spelled parts))
+decl_named version nodes entries parts = decl_by version (table_of nodes entries) parts
 
 -- ---- two that agree on its types give one meaning
 

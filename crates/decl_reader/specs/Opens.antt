@@ -19,18 +19,9 @@ use Rattle.decl_spelling.specs.KnownTypes.{Kept, IsAnswered}
 use Rattle.decl_spelling.specs.Asks.{ask_of, shape_asks}
 use Rattle.block_reader.specs.declared.descriptors.Flat.{Flat}
 use Rattle.decl_reader.specs.declared.descent.Open.{Open}
-use Rattle.decl_reader.specs.declared.fault.DeclFault.{DeclFault}
-use Rattle.decl_reader.specs.declared.fault.DeclFault.TheVariants.{Bytes, Nodes, OutOfMemory}
 use Rattle.block_reader.specs.Parts.{flat_spelled}
-use Rattle.decl_reader.specs.Blocks.{Entry, AllInside, EndsBy, HasRoom, IsStacked, bytes_of}
+use Rattle.decl_reader.specs.Places.{HasRoom}
 use Rattle.decl_reader.specs.Frames.{Frame, closed_by, resume}
-use Rattle.decl_reader.specs.Left.{left_opened, left_resume, left_type, leaves}
-
--- the nodes of the table are in the arena, and its blocks are in order and in the data section
-pub record IsReady (limit size : ℕ) (entries : List Entry) : Type 0 where
-  pub inside : AllInside size entries
-  pub ends : EndsBy limit entries
-  pub stacked : IsStacked entries
 
 -- each descriptor of the data section may be read
 abbrev pub reads : Sections → ReadsBlock
@@ -42,16 +33,11 @@ resolve_type src holder m done = resolve src (reads src) holder m done
 abbrev pub resolve_types : Sections → ℕ → List Mention → Table → Result Table ByteFault
 resolve_types src holder ms done = resolve_all src (reads src) holder ms done
 
--- the steps that were taken are the bytes that the table got
-abbrev pub Counts : ℕ → List Entry → ℕ → List Entry → Type 0
-Counts steps entries after more = after + bytes_of entries ≡ steps + bytes_of more
-
 -- the table that a call left is what reading gives; want of memory says nothing
-abbrev pub Resolves : Result (Unit {0}) DeclFault → Table → Result Table ByteFault → Type 0
+abbrev pub Resolves : Result (Unit {0}) ReadFault → Table → Result Table ByteFault → Type 0
 Resolves (Ok u) known read = read ≡ Ok known
-Resolves (Err (Bytes f)) known read = read ≡ Err f
-Resolves (Err Nodes) known read = Unit {0}
-Resolves (Err OutOfMemory) known read = Unit {0}
+Resolves (Err (reading.Bytes f)) known read = read ≡ Err f
+Resolves (Err reading.OutOfMemory) known read = Unit {0}
 
 abbrev pub own_shape : Result (Flat × ℕ) ByteFault → Result (Shape × ℕ) ByteFault
 own_shape (Ok x) = Ok (flat_spelled x.0, x.1)
@@ -80,11 +66,11 @@ HasArgument (instance_of base args) = 0 < length args
 HasArgument _ = Unit {0}
 
 -- What was read whole is what its mentions say, and no finished descriptor has a byte of it.
-abbrev pub IsOwn : List Entry → ℕ → List Mention → Result (Flat × ℕ) ByteFault → Type 0
-IsOwn entries start mentions (Ok x) =
+abbrev pub IsOwn : Table → ℕ → List Mention → Result (Flat × ℕ) ByteFault → Type 0
+IsOwn done start mentions (Ok x) =
     (map ask_of mentions ≡ shape_asks (flat_spelled x.0)) × HasArgument (flat_spelled x.0) × (start < x.1)
-    × HasRoom start x.1 entries
-IsOwn entries start mentions (Err f) = Unit {0}
+    × HasRoom start x.1 done
+IsOwn done start mentions (Err f) = Unit {0}
 
 -- it ends at an offset or before it, if it has an end
 abbrev pub EndsBefore : Result (Flat × ℕ) ByteFault → ℕ → Type 0
@@ -92,14 +78,14 @@ EndsBefore (Ok x) offset = x.1 ≤ offset
 EndsBefore (Err f) offset = Unit {0}
 
 -- some of its mentions are known
-pub record IsOpen (src : Sections) (done : Table) (entries : List Entry) (o : Open) : Type 0 where
+pub record IsOpen (src : Sections) (done : Table) (o : Open) : Type 0 where
   pub its_start : o.named.value ≡ 32 + o.start
   pub inside : o.start < length src.body
   pub ends : EndsBefore o.own (length src.body)
   pub few : length o.mentions.items ≤ length src.body
   pub some : o.known ≤ length o.mentions.items
   pub answered : AllByRecursion (IsAnswered src done o.start) (take o.known o.mentions.items)
-  pub own : IsOwn entries o.start o.mentions.items o.own
+  pub own : IsOwn done o.start o.mentions.items o.own
 
 -- it starts and ends before an offset
 abbrev pub IsBelow : Open → ℕ → Type 0
@@ -110,50 +96,39 @@ abbrev pub opened : Sections → Mention → Open → Table → Result Table Byt
 opened src named o done =
     resolve_all src (reads src) o.start o.mentions.items done >>= closed_by src.version o.start named (own_shape o.own)
 
--- all of its mentions are still to be known
-abbrev pub fresh_of : Open → Frame
-fresh_of o = frame_from 0 o
-
 -- a descriptor that was just opened for a holder, and what reading its types comes to for the mention that named it
-pub record IsBegun (src : Sections) (done : Table) (entries : List Entry) (holder : ℕ) (named : Mention) (o : Open) :
-    Type 0 where
+pub record IsBegun (src : Sections) (done : Table) (holder : ℕ) (named : Mention) (o : Open) : Type 0 where
   pub fresh : o.known ≡ 0
   pub its_mention : o.named ≡ named
-  pub is_open : IsOpen src done entries o
+  pub is_open : IsOpen src done o
   pub below : IsBelow o holder
   pub turn : resolve src (reads src) holder named done ≡ opened src named o done
-  pub left : left_type src holder named done ≡ left_opened src (reads src) (leaves src) (fresh_of o) done
 
 -- what a mention needs: nothing more, or a descriptor that was opened
-abbrev pub Begins : Sections → Table → List Entry → ℕ → Mention → Result (Option Open) ReadFault → Type 0
-Begins src done entries holder named (Ok None) =
+abbrev pub Begins : Sections → Table → ℕ → Mention → Result (Option Open) ReadFault → Type 0
+Begins src done holder named (Ok None) =
     (resolve src (reads src) holder named done ≡ Ok done) × IsAnswered src done holder named
-Begins src done entries holder named (Ok (Some o)) = IsBegun src done entries holder named o
-Begins src done entries holder named (Err (reading.Bytes f)) = resolve src (reads src) holder named done ≡ Err f
-Begins src done entries holder named (Err reading.OutOfMemory) = Unit {0}
+Begins src done holder named (Ok (Some o)) = IsBegun src done holder named o
+Begins src done holder named (Err (reading.Bytes f)) = resolve src (reads src) holder named done ≡ Err f
+Begins src done holder named (Err reading.OutOfMemory) = Unit {0}
 
 -- A descriptor was closed: it is among the finished ones, which stay, and where it ends at or before an offset it
 -- leaves the room from there on.
-pub record IsClosed (src : Sections) (old new : Table) (before after : List Entry) (o : Open) : Type 0 where
+pub record IsClosed (src : Sections) (old new : Table) (o : Open) : Type 0 where
   pub kept : Kept old new
   pub answered : (holder : ℕ) → IsBelow o holder → IsAnswered src new holder o.named
-  pub room : (from to : ℕ) → IsBelow o from → HasRoom from to before → HasRoom from to after
+  pub room : (from to : ℕ) → IsBelow o from → HasRoom from to old → HasRoom from to new
 
 -- the open descriptors that hold one, the innermost first: each is reading the mention that named the one before it
-abbrev pub AreHolders : Sections → Table → List Entry → Open → List Open → Type 0
-AreHolders src done entries inner [] = Unit {0}
-AreHolders src done entries inner (o ∷ os) =
-    IsOpen src done entries o × (o.known < length o.mentions.items)
+abbrev pub AreHolders : Sections → Table → Open → List Open → Type 0
+AreHolders src done inner [] = Unit {0}
+AreHolders src done inner (o ∷ os) =
+    IsOpen src done o × (o.known < length o.mentions.items)
     × (drop o.known o.mentions.items ≡ inner.named ∷ drop (o.known + 1) o.mentions.items) × IsBelow inner o.start
-    × AreHolders src done entries o os
+    × AreHolders src done o os
 
 abbrev pub resumed : Sections → Open → List Open → Table → Result Table ByteFault
 resumed src first holders done = resume src (reads src) (frame_of first ∷ map holder_of holders) done
-
--- what is left of reading on from there
-abbrev pub left_resumed : Sections → Open → List Open → Table → List Tree
-left_resumed src first holders done =
-    left_resume src (reads src) (leaves src) (frame_of first ∷ map holder_of holders) done
 
 -- ---- whether a type that is known is what its holder asks for
 
@@ -169,8 +144,7 @@ checked_finished holder m finished =
     demand (nat_le finished.end holder) (faults.Range m.at m.value) >>= λ u. checked_type m finished.tree
 
 -- the same of a descriptor that ends at an offset
-pub record IsFinished (src : Sections) (old new : Table) (before after : List Entry) (named : Mention) (end : ℕ) :
-    Type 0 where
+pub record IsFinished (src : Sections) (old new : Table) (named : Mention) (end : ℕ) : Type 0 where
   pub kept : Kept old new
   pub answered : (holder : ℕ) → end ≤ holder → IsAnswered src new holder named
-  pub room : (from to : ℕ) → end ≤ from → HasRoom from to before → HasRoom from to after
+  pub room : (from to : ℕ) → end ≤ from → HasRoom from to old → HasRoom from to new

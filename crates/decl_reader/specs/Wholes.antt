@@ -1,13 +1,15 @@
 -- What the calls that read a declaration answer.
-use Rattle.std.specs.Prelude.{◌≡◌, ℕ, ◌+◌, ◌-◌, List, [], Bool, true, false, Result, Ok, Err, IfOk, Option}
+use Rattle.std.specs.Prelude.{◌≡◌, ℕ, ◌+◌, ◌-◌, ◌++◌, List, [], Bool, true, false, Result, Ok, Err, IfOk, Option}
 use Rattle.std.specs.List.{sum_by}
 use Rattle.code_tables.specs.declared.predeclared.Basic.{Basic}
 use Rattle.wire_bytes.specs.declared.fault.ByteFault.{ByteFault}
 use Rattle.wire_bytes.specs.declared.fault.ReadFault.{ReadFault}
+use Rattle.wire_bytes.specs.declared.fault.ReadFault.TheVariants as reading
 use Rattle.wire_bytes.specs.Reading.{place, ◌>>=◌}
 use Rattle.type_terms.specs.declared.descriptors.Node.{Node}
 use Rattle.type_terms.specs.declared.declarations.DeclNode.{DeclNode}
-use Rattle.type_terms.specs.Declarations.{Decl}
+use Rattle.type_terms.specs.Declarations.{Decl, form_types}
+use Rattle.type_terms.specs.Trees.{Tree}
 use Rattle.type_terms.specs.Declarations.{decl_of}
 use Rattle.decl_spelling.specs.Sections.{Sections, Basics}
 use Rattle.decl_spelling.specs.Spelled as of
@@ -21,15 +23,17 @@ use Rattle.decl_spelling.specs.Declarations.{Receiver, receiver_at, resolved, fa
 use Rattle.block_reader.specs.declared.declarations.DeclParts.{DeclParts}
 use Rattle.decl_reader.specs.declared.fault.DeclFault.{DeclFault}
 use Rattle.decl_reader.specs.declared.fault.DeclFault.TheVariants.{Bytes, Nodes, OutOfMemory}
-use Rattle.decl_reader.specs.Faults.{of_read}
+use Rattle.decl_reader.specs.declared.finished.Descriptor.{Descriptor}
+use Rattle.decl_reader.specs.declared.finished.Spelled.{Spelled}
+use Rattle.decl_reader.specs.Finished.{known_of, types_of, AreInTurn}
+use Rattle.decl_reader.specs.Meant.{decl_by}
 use Rattle.block_reader.specs.Spelled.{const_spelled}
 use Rattle.block_reader.specs.Parts.{form_spelled, value_spelled}
 
--- an error that names a fault is what reading gives; want of nodes or memory says nothing
-abbrev pub FaultIs : {X : Type 0} → DeclFault → Result X ByteFault → Type 0
-FaultIs (Bytes f) read = read ≡ Err f
-FaultIs Nodes read = Unit {0}
-FaultIs OutOfMemory read = Unit {0}
+-- an error that names a fault is what reading gives; want of memory says nothing
+abbrev pub FaultIs : {X : Type 0} → ReadFault → Result X ByteFault → Type 0
+FaultIs (reading.Bytes f) read = read ≡ Err f
+FaultIs reading.OutOfMemory read = Unit {0}
 
 -- where the types are read that were named
 abbrev pub all_known : Ahead → Ahead
@@ -40,7 +44,7 @@ abbrev pub types_before : Sections → ℕ → List Mention → Table → Result
 types_before src offset ms done = resolve_all src (block_at src offset) offset ms done
 
 -- a part of a declaration, seen by view, what is ahead of it then, and the types that are read then
-abbrev pub IsPart : {X Y : Type 0} → (X → Y) → Result X DeclFault → Ahead → Table
+abbrev pub IsPart : {X Y : Type 0} → (X → Y) → Result X ReadFault → Ahead → Table
     → Result ((Y × Ahead) × Table) ByteFault → Type 0
 IsPart view (Ok x) ahead known read = read ≡ Ok ((view x, ahead), known)
 IsPart view (Err e) ahead known read = FaultIs e read
@@ -56,10 +60,10 @@ value_by src at basic a = spelling_at at basic >>= λ spelling. fault_alone (val
 
 abbrev pub IsValue : Result SpelledConst ReadFault → Ahead → Result (of.SpelledConst × Ahead) ByteFault → Type 0
 IsValue (Ok value) ahead read = read ≡ Ok (const_spelled value, ahead)
-IsValue (Err e) ahead read = FaultIs (of_read e) read
+IsValue (Err e) ahead read = FaultIs e read
 
 -- a declaration with types as numbers, what is ahead of it, and the types that it reaches
-abbrev pub IsWhole : Result DeclParts DeclFault → Ahead → Table → Result Read ByteFault → Type 0
+abbrev pub IsWhole : Result DeclParts ReadFault → Ahead → Table → Result Read ByteFault → Type 0
 IsWhole (Ok parts) ahead known read =
     read
     ≡ Ok (record {
@@ -75,14 +79,39 @@ abbrev pub reached : Sections → ℕ → Read → ℕ
 reached src offset x = sum_by (λ entry. entry.1.end - entry.0) x.table + (x.end - (src.body_at + offset))
 
 -- where a declaration is read whole, the steps are the bytes that it reaches
-abbrev pub CountsReached : {X : Type 0} → Sections → Basics → ℕ → Result X DeclFault → ℕ → ℕ → Type 0
+abbrev pub CountsReached : {X E : Type 0} → Sections → Basics → ℕ → Result X E → ℕ → ℕ → Type 0
 CountsReached src basics offset result before after =
     IfOk result (λ _. IfOk (read_at src basics offset) (λ x. after ≡ before + reached src offset x))
+
+-- A declaration with types as numbers and the descriptors that it reaches are what reading gives.
+pub record IsRead (src : Sections) (basics : Basics) (offset : ℕ) (parts : DeclParts) (ds : List Descriptor) : Type 0 where
+  pub read : Read
+  pub is : read_at src basics offset ≡ Ok read
+  pub form : read.form ≡ form_spelled parts
+  pub value : read.value ≡ value_spelled parts
+  pub table : read.table ≡ known_of src.version ds
+  pub turn : AreInTurn src.version [] ds
+
+abbrev pub ReadsParts : Sections → Basics → ℕ → Result DeclParts ReadFault → List Descriptor → Type 0
+ReadsParts src basics offset (Ok parts) ds = IsRead src basics offset parts ds
+ReadsParts src basics offset (Err e) ds = FaultIs e (read_at src basics offset)
+
+abbrev pub ReadsSpelled : Sections → Basics → ℕ → Result Spelled ReadFault → Type 0
+ReadsSpelled src basics offset (Ok spelled) = IsRead src basics offset spelled.decl spelled.finished.items
+ReadsSpelled src basics offset (Err e) = FaultIs e (read_at src basics offset)
+
+-- the types of the descriptors, and those that the declaration names
+abbrev pub types_reached : ℕ → Spelled → List Tree
+types_reached version spelled =
+    types_of version spelled.finished.items
+    ++ form_types (decl_by version (known_of version spelled.finished.items) spelled.decl)
 
 -- a declaration whose types are nodes
 abbrev pub ReadsDecl : Result DeclNode DeclFault → List Node → Result Decl ByteFault → Type 0
 ReadsDecl (Ok node) nodes read = read ≡ Ok (decl_of nodes node)
-ReadsDecl (Err e) nodes read = FaultIs e read
+ReadsDecl (Err (Bytes f)) nodes read = read ≡ Err f
+ReadsDecl (Err Nodes) nodes read = Unit {0}
+ReadsDecl (Err OutOfMemory) nodes read = Unit {0}
 
 -- what holds of a fault that was met
 abbrev pub IfFault : {X : Type 0} → Result X DeclFault → (ByteFault → Type 0) → Type 0

@@ -10,13 +10,13 @@ ghost use Rattle.type_terms.specs.Declarations.{decl_of};
 ghost use Rattle.decl_spelling.specs.Sections.{HoldsBytes, window};
 ghost use Rattle.decl_spelling.specs.Reading.{start};
 ghost use Rattle.decl_spelling.specs.Declarations.{head_at, resolved, after_head, decl_at, FirstFault};
-ghost use Rattle.decl_spelling.specs.Leaving.{left_by_part, left_after_head, types_read};
+ghost use Rattle.decl_spelling.specs.Leaving.{types_read};
 ghost use Rattle.decl_spelling.specs.Spelling.{SpellsDecl};
 ghost use Rattle.block_reader.specs.Calls.{sections_of, ahead_of};
 ghost use Rattle.block_reader.specs.Parts.{head_spelled};
 ghost use Rattle.decl_reader.specs.Forms.{IsUpToTypes};
-ghost use Rattle.decl_reader.specs.Progress.{known, IsReadyFor, Adds, GoesOn};
-ghost use Rattle.decl_reader.specs.Wholes.{IsPart, IsWhole, ReadsDecl, IfFault, CountsReached};
+ghost use Rattle.decl_reader.specs.Progress.{known, IsReadyFor, GoesOn};
+ghost use Rattle.decl_reader.specs.Wholes.{IsPart, IsWhole, ReadsParts, ReadsSpelled, ReadsDecl, IfFault, CountsReached};
 
 mod constants;
 mod methods;
@@ -24,9 +24,10 @@ mod parts;
 
 use crate::basics::Basics;
 use crate::fault::DeclFault;
-use crate::nodes::add_declaration;
+use crate::finished::Spelled;
+use crate::nodes::add_spelled;
+use crate::places::Places;
 use crate::reading::Reading;
-use crate::table::Table;
 use block_reader::{Block, DeclHead, DeclParts, read_declaration_head};
 use file_parts::Parts;
 use std::alloc::Global;
@@ -38,8 +39,8 @@ use wire_bytes::ReadFault;
 /// Reads the declaration at an offset of the data section of a full file or a bundle, or answers the first fault in
 /// reading order. A declaration is read from left to right; a descriptor is read where it is first named, once, and
 /// stands wholly before the block that names it. docs/FORMAT.md has the rules, "Declarations". The nodes of its types
-/// are added to the arena, also where a fault is met behind them. `Nodes` comes only where the arena has no room for
-/// the types that are read. What is read keeps the rules of declarations of environments.
+/// are added to the arena. `Nodes` comes only where the arena has no room for the types that are read. What is read
+/// keeps the rules of declarations of environments.
 ///
 /// One step is one byte of the data section read: those of each descriptor that it reaches, once, and its own. It takes
 /// time near linear in them, and memory by the descriptors.
@@ -68,15 +69,35 @@ pub fn read_decl<B: Basics, L: Ledger>(
         → Outgrows arena.old (types_read (sections_of parts.now) (B.meaning basics.now) offset) }
     ensures full { IsErrOf result DeclFault.Nodes → length arena.new.nodes ≡ arena.new.limit }
 {
-    let mut table = Table::new(alloc);
+    let spelled = read_spelled(alloc, parts, offset, basics, steps)?;
+    add_spelled(alloc, parts.version, spelled, arena)
+}
+
+/// The declaration with types as numbers, and the descriptors that it reaches.
+fn read_spelled<B: Basics, L: Ledger>(
+    alloc: Global,
+    parts: &Parts<'_>,
+    offset: u64,
+    basics: &B,
+    steps: &mut Steps<L>,
+) -> Result<Spelled, ReadFault>
+    requires of_file { IsOfFile parts.now }
+    requires inside { offset < parts.now.body_len }
+    ensures bytes { HoldsBytes (sections_of parts.now) }
+    ensures exact { ReadsSpelled (sections_of parts.now) (B.meaning basics.now) offset result }
+    ensures counted { CountsReached (sections_of parts.now) (B.meaning basics.now) offset result steps.old steps.new }
+    ensures at_most { steps.new ≤ steps.old + parts.now.body_len }
+{
     let mut block = Block::new(alloc, parts, offset, parts.body_len);
     let mut reading = Reading {
         alloc,
-        table: &mut table,
-        arena,
+        finished: Vec::new(alloc),
+        places: Places::new(alloc),
         steps,
     };
-    reading.read_whole(parts, offset, basics, &mut block)
+    let decl = reading.read_whole(parts, offset, basics, &mut block)?;
+    let Reading { finished, .. } = reading;
+    Ok(Spelled { decl, finished })
 }
 
 impl<L: Ledger> Reading<'_, L> {
@@ -87,30 +108,25 @@ impl<L: Ledger> Reading<'_, L> {
         offset: u64,
         basics: &B,
         block: &mut Block<'_>,
-    ) -> Result<DeclNode, DeclFault>
+    ) -> Result<DeclParts, ReadFault>
         requires of_file { IsOfFile parts.now }
         requires bytes { HoldsBytes (sections_of parts.now) }
         requires inside { offset < parts.now.body_len }
         requires block { ahead_of block.old ≡ start (window (sections_of parts.now) offset parts.now.body_len) }
-        requires empty { self.old.table.now ≡ [] }
-        ensures exact { ReadsDecl result self.new.arena.now.nodes
-            (decl_at (sections_of parts.now) (B.meaning basics.now) offset) }
+        requires empty { self.old.finished.items ≡ [] }
+        requires none_placed { self.old.places ≡ [] }
+        ensures exact { ReadsParts (sections_of parts.now) (B.meaning basics.now) offset result
+            self.new.finished.items }
         ensures counted { CountsReached (sections_of parts.now) (B.meaning basics.now) offset result
             self.old.steps.now self.new.steps.now }
         ensures at_most { self.new.steps.now ≤ self.old.steps.now + parts.now.body_len }
-        ensures within { IfOk result (λ node. AllBelow (length self.new.arena.now.nodes) (decl_nodes node)) }
-        ensures adds { AddsOnly
-            (types_read (sections_of parts.now) (B.meaning basics.now) offset)
-            self.old.arena.now self.new.arena.now }
-        ensures outgrown { IsErrOf result DeclFault.Nodes → Outgrows self.old.arena.now
-            (types_read (sections_of parts.now) (B.meaning basics.now) offset) }
-        ensures going { Adds self.old result self.new }
+        ensures same_steps { self.new.steps.ghost_name ≡ self.old.steps.ghost_name }
     {
         let head = self.read_head_types(parts, offset, block)?;
         let whole = self.read_rest(parts, offset, head, basics, block)?;
         let end = block.cursor.place() as u64 - parts.body_at;
         self.steps.add(end - offset);
-        add_declaration(self.alloc, parts.version, whole, self.table, self.arena)
+        Ok(whole)
     }
 
     /// A declaration up to where its types decide what follows, and these types.
@@ -119,21 +135,14 @@ impl<L: Ledger> Reading<'_, L> {
         parts: &Parts<'_>,
         offset: u64,
         block: &mut Block<'_>,
-    ) -> Result<DeclHead, DeclFault>
+    ) -> Result<DeclHead, ReadFault>
         requires of_file { IsOfFile parts.now }
         requires ready { IsReadyFor parts.now self.old }
         requires within { offset ≤ parts.now.body_len }
-        ensures exact { IsPart head_spelled result (ahead_of block.new) (known self.new)
+        ensures exact { IsPart head_spelled result (ahead_of block.new) (known parts.now self.new)
             (resolved (sections_of parts.now) offset (head_at (sections_of parts.now) (ahead_of block.old))
-            (known self.old)) }
-        ensures adds { AddsOnly
-            (left_by_part (sections_of parts.now) offset
-            (head_at (sections_of parts.now) (ahead_of block.old)) (known self.old))
-            self.old.arena.now self.new.arena.now }
-        ensures outgrown { IsErrOf result DeclFault.Nodes → Outgrows self.old.arena.now
-            (left_by_part (sections_of parts.now) offset
-            (head_at (sections_of parts.now) (ahead_of block.old)) (known self.old)) }
-        ensures goes_on { GoesOn parts.now self.old result self.new }
+            (known parts.now self.old)) }
+        ensures goes_on { GoesOn parts.now self.old self.new }
     {
         match read_declaration_head(self.alloc, parts, block) {
             Ok(head) => {
@@ -143,9 +152,9 @@ impl<L: Ledger> Reading<'_, L> {
             Err(ReadFault::Bytes(fault)) => {
                 // A fault of the types that stand before it comes first.
                 self.know_types(parts, offset, block)?;
-                Err(DeclFault::Bytes(fault))
+                Err(ReadFault::Bytes(fault))
             }
-            Err(ReadFault::OutOfMemory) => Err(DeclFault::OutOfMemory),
+            Err(ReadFault::OutOfMemory) => Err(ReadFault::OutOfMemory),
         }
     }
 
@@ -157,20 +166,15 @@ impl<L: Ledger> Reading<'_, L> {
         head: DeclHead,
         basics: &B,
         block: &mut Block<'_>,
-    ) -> Result<DeclParts, DeclFault>
+    ) -> Result<DeclParts, ReadFault>
         requires of_file { IsOfFile parts.now }
         requires ready { IsReadyFor parts.now self.old }
         requires within { offset ≤ parts.now.body_len }
         requires whole { IsUpToTypes head }
-        ensures exact { IsWhole result (ahead_of block.new) (known self.new)
+        ensures exact { IsWhole result (ahead_of block.new) (known parts.now self.new)
             (after_head (sections_of parts.now) (B.meaning basics.now) offset (head_spelled head) (ahead_of block.old)
-            (known self.old)) }
-        ensures adds { AddsOnly
-            (left_after_head (sections_of parts.now) offset (head_spelled head) (ahead_of block.old) (known self.old))
-            self.old.arena.now self.new.arena.now }
-        ensures outgrown { IsErrOf result DeclFault.Nodes → Outgrows self.old.arena.now
-            (left_after_head (sections_of parts.now) offset (head_spelled head) (ahead_of block.old) (known self.old)) }
-        ensures goes_on { GoesOn parts.now self.old result self.new }
+            (known parts.now self.old)) }
+        ensures goes_on { GoesOn parts.now self.old self.new }
     {
         match head {
             DeclHead::Whole(parts) => Ok(parts),

@@ -1,38 +1,33 @@
 //! Reading the types that a block names. The descriptors that are open stand on a list, not on the call stack, so a
-//! chain of any length is read.
+//! chain of any length is read. Nothing is made of the types here: what was read whole is kept, with types as numbers.
 
-ghost use Rattle.std.specs.Prelude.{◌≡◌, ◌+◌, ◌-◌, ◌<◌, ◌≤◌, List, [], Ok, Err, None, length, IfOk, IsErrOf, OnOk};
-ghost use Rattle.type_terms.specs.declared.descriptors.Node.{Node};
-ghost use Rattle.type_terms.specs.Additions.{AddsOnly, Outgrows};
-ghost use Rattle.type_terms.specs.Denotation.{tree};
+ghost use Rattle.std.specs.Prelude.{◌≡◌, ◌+◌, ◌<◌, ◌≤◌, ℕ, [], None, Err, length, IfOk, OnOk};
 ghost use Rattle.file_parts.specs.FileParts.{IsOfFile, body_of};
+ghost use Rattle.type_terms.specs.Shapes.{retype};
+ghost use Rattle.type_terms.specs.Trees.{Tree, tree_of};
 ghost use Rattle.decl_spelling.specs.Tables.{at};
 ghost use Rattle.decl_spelling.specs.Codes.{basic_of};
 ghost use Rattle.decl_spelling.specs.Descent.{named_at as renamed};
 ghost use Rattle.block_reader.specs.Calls.{sections_of};
-ghost use Rattle.decl_reader.specs.Blocks.{table_of, finished_of, HasRoom};
-ghost use Rattle.decl_reader.specs.Meant.{IsGenericFlat};
 ghost use Rattle.block_reader.specs.Parts.{flat_spelled};
+ghost use Rattle.decl_reader.specs.Meant.{IsGenericFlat};
+ghost use Rattle.decl_reader.specs.Places.{HasRoom};
 ghost use Rattle.decl_reader.specs.Shapes.{flat_shape};
 ghost use Rattle.decl_reader.specs.Frames.{answered, closed, with_shape};
-ghost use Rattle.decl_reader.specs.Left.{left_closed, left_closed_by, left_type, left_types};
 ghost use Rattle.decl_reader.specs.Opens.{resolve_type, resolve_types, frame_of, IsOpen, IsBegun, IsClosed, IsFinished};
-ghost use Rattle.decl_reader.specs.Opens.{Resolves, Begins, resumed, left_resumed};
+ghost use Rattle.decl_reader.specs.Opens.{Resolves, Begins, resumed};
 ghost use Rattle.decl_reader.specs.Opens.{checked_basic, checked_type, checked_finished};
 ghost use Rattle.decl_reader.specs.Progress.{known, IsReadyFor, GoesOn};
 
-use crate::demands::{basic_meets, node_meets, out_of_range, unmet};
-use crate::fault::DeclFault;
-use crate::nodes::add_flat;
-use crate::reading::Reading;
-use crate::table::Finished;
+use crate::demands::{basic_meets, flat_meets, out_of_range, unmet};
+use crate::finished::Descriptor;
+use crate::reading::{Reading, join};
 use crate::type_off::TypeOff;
 use block_reader::{Block, Flat, basic_of, read_flat};
 use decl_spelling::{FIRST_DESCRIPTOR, Mention};
 use file_parts::Parts;
 use std::alloc::AllocError;
 use std::sync::ledger::Ledger;
-use type_terms::{Arena, NodeId};
 use wire_bytes::{ByteFault, ReadFault};
 
 /// A descriptor that is open: its own bytes were read, and some of its types are still to be known.
@@ -55,17 +50,13 @@ impl<L: Ledger> Reading<'_, L> {
         parts: &Parts<'_>,
         holder: u64,
         mentions: &[Mention],
-    ) -> Result<(), DeclFault>
+    ) -> Result<(), ReadFault>
         requires sections { IsOfFile parts.now }
         requires ready { IsReadyFor parts.now self.old }
         requires within { holder ≤ parts.now.body_len }
-        ensures exact { Resolves result (known self.new)
-            (resolve_types (sections_of parts.now) holder mentions.now (known self.old)) }
-        ensures adds { AddsOnly (left_types (sections_of parts.now) holder mentions.now (known self.old))
-            self.old.arena.now self.new.arena.now }
-        ensures outgrown { IsErrOf result DeclFault.Nodes → Outgrows self.old.arena.now
-            (left_types (sections_of parts.now) holder mentions.now (known self.old)) }
-        ensures goes_on { GoesOn parts.now self.old result self.new }
+        ensures exact { Resolves result (known parts.now self.new)
+            (resolve_types (sections_of parts.now) holder mentions.now (known parts.now self.old)) }
+        ensures goes_on { GoesOn parts.now self.old self.new }
     {
         for mention in mentions {
             self.read_type(parts, holder, *mention)?;
@@ -74,17 +65,13 @@ impl<L: Ledger> Reading<'_, L> {
     }
 
     /// Reads the type of a mention, with all that it reaches.
-    fn read_type(&mut self, parts: &Parts<'_>, holder: u64, named: Mention) -> Result<(), DeclFault>
+    fn read_type(&mut self, parts: &Parts<'_>, holder: u64, named: Mention) -> Result<(), ReadFault>
         requires sections { IsOfFile parts.now }
         requires ready { IsReadyFor parts.now self.old }
         requires within { holder ≤ parts.now.body_len }
-        ensures exact { Resolves result (known self.new)
-            (resolve_type (sections_of parts.now) holder named (known self.old)) }
-        ensures adds { AddsOnly (left_type (sections_of parts.now) holder named (known self.old))
-            self.old.arena.now self.new.arena.now }
-        ensures outgrown { IsErrOf result DeclFault.Nodes → Outgrows self.old.arena.now
-            (left_type (sections_of parts.now) holder named (known self.old)) }
-        ensures goes_on { GoesOn parts.now self.old result self.new }
+        ensures exact { Resolves result (known parts.now self.new)
+            (resolve_type (sections_of parts.now) holder named (known parts.now self.old)) }
+        ensures goes_on { GoesOn parts.now self.old self.new }
     {
         match self.begin(parts, holder, named)? {
             Some(first) => self.read_open(parts, first),
@@ -93,16 +80,13 @@ impl<L: Ledger> Reading<'_, L> {
     }
 
     /// Reads an open descriptor to its end, with all that it reaches.
-    fn read_open(&mut self, parts: &Parts<'_>, first: Open) -> Result<(), DeclFault>
+    fn read_open(&mut self, parts: &Parts<'_>, first: Open) -> Result<(), ReadFault>
         requires sections { IsOfFile parts.now }
         requires ready { IsReadyFor parts.now self.old }
-        requires first { IsOpen (sections_of parts.now) (known self.old) self.old.table.now first }
-        ensures exact { Resolves result (known self.new) (resumed (sections_of parts.now) first [] (known self.old)) }
-        ensures adds { AddsOnly (left_resumed (sections_of parts.now) first [] (known self.old))
-            self.old.arena.now self.new.arena.now }
-        ensures outgrown { IsErrOf result DeclFault.Nodes → Outgrows self.old.arena.now
-            (left_resumed (sections_of parts.now) first [] (known self.old)) }
-        ensures goes_on { GoesOn parts.now self.old result self.new }
+        requires first { IsOpen (sections_of parts.now) (known parts.now self.old) first }
+        ensures exact { Resolves result (known parts.now self.new)
+            (resumed (sections_of parts.now) first [] (known parts.now self.old)) }
+        ensures goes_on { GoesOn parts.now self.old self.new }
     {
         let mut holders: Vec<Open> = Vec::new(self.alloc);
         let mut current = first;
@@ -139,7 +123,7 @@ impl<L: Ledger> Reading<'_, L> {
         requires sections { IsOfFile parts.now }
         requires ready { IsReadyFor parts.now self.now }
         requires within { holder ≤ parts.now.body_len }
-        ensures { Begins (sections_of parts.now) (known self.now) self.now.table.now holder named result }
+        ensures { Begins (sections_of parts.now) (known parts.now self.now) holder named result }
     {
         match TypeOff::new(named.value) {
             TypeOff::Basic(_) => {
@@ -164,11 +148,12 @@ impl<L: Ledger> Reading<'_, L> {
         requires its_start { named.value ≡ FIRST_DESCRIPTOR + start }
         requires before { start < holder }
         requires within { holder ≤ parts.now.body_len }
-        ensures { Begins (sections_of parts.now) (known self.now) self.now.table.now holder named result }
+        ensures { Begins (sections_of parts.now) (known parts.now self.now) holder named result }
     {
-        match self.table.at(start) {
-            Some(finished) => {
-                check_finished(holder, named, finished, self.arena)?;
+        match self.place_at(parts, start) {
+            Some(place) => {
+                let descriptor = &self.finished[place.index];
+                check_finished(holder, named, place.end, &descriptor.flat)?;
                 Ok(None)
             }
             None => Ok(Some(self.open_at(parts, holder, named, start)?)),
@@ -188,10 +173,10 @@ impl<L: Ledger> Reading<'_, L> {
         requires its_start { named.value ≡ FIRST_DESCRIPTOR + start }
         requires before { start < holder }
         requires within { holder ≤ parts.now.body_len }
-        requires new { at (known self.now) start ≡ None }
-        ensures { IfOk result (IsBegun (sections_of parts.now) (known self.now) self.now.table.now holder named) }
+        requires new { at (known parts.now self.now) start ≡ None }
+        ensures { IfOk result (IsBegun (sections_of parts.now) (known parts.now self.now) holder named) }
     {
-        let mut block = Block::new(self.alloc, parts, start, self.table.free_to(start, holder));
+        let mut block = Block::new(self.alloc, parts, start, self.places.free_to(start, holder));
         let own = match read_flat(self.alloc, parts, &mut block) {
             Ok(flat) => Ok((flat, block.cursor.place() as u64 - parts.body_at)),
             Err(ReadFault::Bytes(fault)) => Err(fault),
@@ -207,19 +192,14 @@ impl<L: Ledger> Reading<'_, L> {
     }
 
     /// A descriptor whose types are known joins the finished ones, and is what its holder asks for.
-    fn close(&mut self, parts: &Parts<'_>, block: Open) -> Result<(), DeclFault>
+    fn close(&mut self, parts: &Parts<'_>, block: Open) -> Result<(), ReadFault>
         requires ready { IsReadyFor parts.now self.old }
-        requires is_open { IsOpen (sections_of parts.now) (known self.old) self.old.table.now block }
+        requires is_open { IsOpen (sections_of parts.now) (known parts.now self.old) block }
         requires all { block.known ≡ length block.mentions.items }
-        ensures exact { Resolves result (known self.new) (closed parts.now.version (frame_of block) (known self.old)) }
-        ensures adds { AddsOnly (left_closed parts.now.version (frame_of block) (known self.old))
-            self.old.arena.now self.new.arena.now }
-        ensures outgrown { IsErrOf result DeclFault.Nodes → Outgrows self.old.arena.now
-            (left_closed parts.now.version (frame_of block) (known self.old)) }
+        ensures exact { Resolves result (known parts.now self.new) (closed parts.now.version (frame_of block) (known parts.now self.old)) }
         ensures closed { OnOk result
-            (IsClosed (sections_of parts.now) (known self.old) (known self.new) self.old.table.now self.new.table.now
-            block) }
-        ensures goes_on { GoesOn parts.now self.old result self.new }
+            (IsClosed (sections_of parts.now) (known parts.now self.old) (known parts.now self.new) block) }
+        ensures goes_on { GoesOn parts.now self.old self.new }
     {
         let Open {
             start,
@@ -229,7 +209,7 @@ impl<L: Ledger> Reading<'_, L> {
         } = block;
         match own {
             Ok((flat, end)) => self.finish(parts, start, named, flat, end),
-            Err(fault) => Err(DeclFault::Bytes(named_at(named, fault))),
+            Err(fault) => Err(ReadFault::Bytes(named_at(named, fault))),
         }
     }
 
@@ -242,30 +222,29 @@ impl<L: Ledger> Reading<'_, L> {
         named: Mention,
         flat: Flat,
         end: u64,
-    ) -> Result<(), DeclFault>
+    ) -> Result<(), ReadFault>
         requires ready { IsReadyFor parts.now self.old }
-        requires generic { IsGenericFlat parts.now.version (known self.old) (flat_shape flat) }
+        requires generic { IsGenericFlat parts.now.version (known parts.now self.old) (flat_shape flat) }
         requires its_start { named.value ≡ FIRST_DESCRIPTOR + start }
         requires some { start < end }
         requires inside { end ≤ length (body_of parts.now) }
-        requires room { HasRoom start end self.old.table.now }
-        ensures exact { Resolves result (known self.new)
+        requires room { HasRoom start end (known parts.now self.old) }
+        ensures exact { Resolves result (known parts.now self.new)
             (answered parts.now.version named
-            (with_shape parts.now.version start (flat_spelled flat, end) (known self.old))) }
-        ensures adds { AddsOnly (left_closed_by parts.now.version (Ok (flat_spelled flat, end)) (known self.old))
-            self.old.arena.now self.new.arena.now }
-        ensures outgrown { IsErrOf result DeclFault.Nodes → Outgrows self.old.arena.now
-            (left_closed_by parts.now.version (Ok (flat_spelled flat, end)) (known self.old)) }
+            (with_shape parts.now.version start (flat_spelled flat, end) (known parts.now self.old))) }
         ensures finished { OnOk result
-            (IsFinished (sections_of parts.now) (known self.old) (known self.new) self.old.table.now self.new.table.now
-            named end) }
-        ensures goes_on { GoesOn parts.now self.old result self.new }
+            (IsFinished (sections_of parts.now) (known parts.now self.old) (known parts.now self.new) named
+            end) }
+        ensures goes_on { GoesOn parts.now self.old self.new }
     {
-        let node = add_flat(self.alloc, parts.version, flat, self.table, self.arena)?;
-        self.table.insert(start, Finished { end, node })?;
+        let met = check_flat(named, &flat);
+        let descriptor = Descriptor { start, end, flat };
+        join(&mut self.finished, &mut self.places, descriptor)?;
         self.steps.add(end - start);
-        check_node(named, node, self.arena)?;
-        Ok(())
+        match met {
+            Ok(()) => Ok(()),
+            Err(fault) => Err(ReadFault::Bytes(fault)),
+        }
     }
 }
 
@@ -281,26 +260,22 @@ fn check_basic(version: u8, named: Mention) -> Result<(), ByteFault>
 }
 
 /// A descriptor that was read before ends before its holder, and is what that asks for.
-fn check_finished(
-    holder: u64,
-    named: Mention,
-    finished: Finished,
-    arena: &Arena,
-) -> Result<(), ByteFault>
-    requires inside { finished.node < length arena.now.nodes }
-    ensures { result ≡ checked_finished holder named (finished_of arena.now.nodes finished) }
+fn check_finished(holder: u64, named: Mention, end: u64, flat: &Flat) -> Result<(), ByteFault>
+    ensures { (types : ℕ → Tree)
+        → result
+        ≡ checked_finished holder named (record { end = end; tree = tree_of (retype types (flat_shape flat.now)) }) }
 {
-    if finished.end > holder {
+    if end > holder {
         return Err(out_of_range(named));
     }
-    check_node(named, finished.node, arena)
+    check_flat(named, flat)
 }
 
-fn check_node(named: Mention, node: NodeId, arena: &Arena) -> Result<(), ByteFault>
-    requires inside { node < length arena.now.nodes }
-    ensures { result ≡ checked_type named (tree arena.now.nodes node) }
+/// What a descriptor spells, whatever stands in it, is what its holder asks for.
+fn check_flat(named: Mention, flat: &Flat) -> Result<(), ByteFault>
+    ensures { (types : ℕ → Tree) → result ≡ checked_type named (tree_of (retype types (flat_shape flat.now))) }
 {
-    if node_meets(named.asked, arena.node(node)) {
+    if flat_meets(named.asked, flat) {
         Ok(())
     } else {
         Err(unmet(named))

@@ -6,5 +6,4 @@ mod kept;
 mod members;
 mod numbers;
 
-pub(crate) use declarations::add_declaration;
-pub(crate) use descriptors::add_flat;
+pub(crate) use declarations::add_spelled;

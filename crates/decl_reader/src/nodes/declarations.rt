@@ -1,14 +1,18 @@
 //! Declarations with types as nodes.
 
-ghost use Rattle.std.specs.Prelude.{◌≡◌, length, IfOk, IfErr, IsErrOf};
+ghost use Rattle.std.specs.Prelude.{◌≡◌, [], length, IfOk, IfErr, IsErrOf};
 ghost use Rattle.type_terms.specs.Additions.{AddsOnly, Outgrows};
 ghost use Rattle.type_terms.specs.Arenas.{AllBelow, Extends};
 ghost use Rattle.type_terms.specs.Declarations.{decl_nodes, decl_of, form_types};
 ghost use Rattle.decl_reader.specs.Faults.{IsNoFault};
 ghost use Rattle.decl_reader.specs.Blocks.{AllInside};
-ghost use Rattle.decl_reader.specs.Meant.{decl_named};
+ghost use Rattle.decl_reader.specs.Finished.{known_of, AreInTurn};
+ghost use Rattle.decl_reader.specs.Meant.{decl_by, decl_named};
+ghost use Rattle.decl_reader.specs.Wholes.{types_reached};
 
 use crate::fault::DeclFault;
+use crate::finished::Spelled;
+use crate::nodes::descriptors::add_descriptors;
 use crate::nodes::kept::Kept;
 use crate::nodes::numbers::Numbers;
 use crate::table::Table;
@@ -17,7 +21,7 @@ use std::alloc::Global;
 use type_terms::{Arena, DeclNode};
 
 /// The declaration with the types that its numbers name.
-pub(crate) fn add_declaration(
+fn add_declaration(
     alloc: Global,
     version: u8,
     parts: DeclParts,
@@ -36,6 +40,28 @@ pub(crate) fn add_declaration(
     ensures full { IsErrOf result DeclFault.Nodes → length arena.new.nodes ≡ arena.new.limit }
 {
     parts.with_nodes(alloc, version, table, arena)
+}
+
+/// The declaration and what it reaches, with types as nodes.
+pub(crate) fn add_spelled(
+    alloc: Global,
+    version: u8,
+    spelled: Spelled,
+    arena: &mut Arena,
+) -> Result<DeclNode, DeclFault>
+    requires turn { AreInTurn version [] spelled.finished.items }
+    ensures denotes { IfOk result
+        (λ node. decl_of arena.new.nodes node ≡ decl_by version (known_of version spelled.finished.items) spelled.decl) }
+    ensures within { IfOk result (λ node. AllBelow (length arena.new.nodes) (decl_nodes node)) }
+    ensures extends { Extends arena.old arena.new }
+    ensures only_memory { IfErr result IsNoFault }
+    ensures adds { AddsOnly (types_reached version spelled) arena.old arena.new }
+    ensures outgrown { IsErrOf result DeclFault.Nodes → Outgrows arena.old (types_reached version spelled) }
+    ensures full { IsErrOf result DeclFault.Nodes → length arena.new.nodes ≡ arena.new.limit }
+{
+    let Spelled { decl, finished } = spelled;
+    let table = add_descriptors(alloc, version, finished, arena)?;
+    add_declaration(alloc, version, decl, &table, arena)
 }
 
 impl Kept for DeclParts {

@@ -1,6 +1,6 @@
 //! The node of a descriptor.
 
-ghost use Rattle.std.specs.Prelude.{◌≡◌, ◌<◌, [], ◌∷◌, length, IfOk, IfErr, IsErrOf};
+ghost use Rattle.std.specs.Prelude.{◌≡◌, ◌<◌, [], ◌∷◌, length, IfOk, IfErr, IsErrOf, OnOk};
 ghost use Rattle.type_terms.specs.Additions.{AddsOnly, Outgrows};
 ghost use Rattle.type_terms.specs.Arenas.{Extends};
 ghost use Rattle.type_terms.specs.Denotation.{tree};
@@ -9,13 +9,15 @@ ghost use Rattle.type_terms.specs.Trees.{tree_of};
 ghost use Rattle.decl_spelling.specs.Tables.{type_named};
 ghost use Rattle.decl_reader.specs.Faults.{IsNoFault};
 ghost use Rattle.decl_reader.specs.Blocks.{AllInside, table_of};
+ghost use Rattle.decl_reader.specs.Finished.{type_of, joined, known_of, types_of, MayJoin, AreInTurn};
 ghost use Rattle.decl_reader.specs.Meant.{IsGenericFlat};
 ghost use Rattle.decl_reader.specs.Shapes.{flat_shape};
 
 use crate::fault::DeclFault;
+use crate::finished::Descriptor;
 use crate::nodes::kept::Kept;
 use crate::nodes::numbers::{Elements, Numbers};
-use crate::table::Table;
+use crate::table::{Finished, Table};
 use block_reader::{Flat, SpelledName};
 use go_values::QName;
 use std::alloc::Global;
@@ -23,7 +25,7 @@ use type_terms::{Arena, Node, NodeId};
 
 /// The node of the type that a descriptor spells, with the types that its numbers name. An instance has the name of a
 /// generic type, and an argument.
-pub(crate) fn add_flat(
+fn add_flat(
     alloc: Global,
     version: u8,
     flat: Flat,
@@ -47,6 +49,55 @@ pub(crate) fn add_flat(
 {
     let node = flat.with_nodes(alloc, version, table, arena)?;
     Ok(arena.add(node)?)
+}
+
+/// The nodes of descriptors, each behind those that it names.
+pub(crate) fn add_descriptors(
+    alloc: Global,
+    version: u8,
+    finished: Vec<Descriptor>,
+    arena: &mut Arena,
+) -> Result<Table, DeclFault>
+    requires turn { AreInTurn version [] finished.items }
+    ensures denotes { IfOk result (λ table. table_of arena.new.nodes table ≡ known_of version finished.items) }
+    ensures inside { IfOk result (AllInside (length arena.new.nodes)) }
+    ensures extends { Extends arena.old arena.new }
+    ensures only_memory { IfErr result IsNoFault }
+    ensures adds { AddsOnly (types_of version finished.items) arena.old arena.new }
+    ensures outgrown { IsErrOf result DeclFault.Nodes → Outgrows arena.old (types_of version finished.items) }
+    ensures full { IsErrOf result DeclFault.Nodes → length arena.new.nodes ≡ arena.new.limit }
+{
+    let mut table = Table::new(alloc);
+    for descriptor in finished {
+        add_descriptor(alloc, version, descriptor, &mut table, arena)?;
+    }
+    Ok(table)
+}
+
+/// The node of a descriptor behind those that it names.
+fn add_descriptor(
+    alloc: Global,
+    version: u8,
+    descriptor: Descriptor,
+    table: &mut Table,
+    arena: &mut Arena,
+) -> Result<(), DeclFault>
+    requires inside { AllInside (length arena.old.nodes) table.old }
+    requires may { MayJoin version (table_of arena.old.nodes table.old) descriptor }
+    ensures denotes { OnOk result
+        (table_of arena.new.nodes table.new ≡ joined version (table_of arena.old.nodes table.old) descriptor) }
+    ensures inside { OnOk result (AllInside (length arena.new.nodes) table.new) }
+    ensures extends { Extends arena.old arena.new }
+    ensures only_memory { IfErr result IsNoFault }
+    ensures adds { AddsOnly (type_of version (table_of arena.old.nodes table.old) descriptor ∷ []) arena.old arena.new }
+    ensures outgrown { IsErrOf result DeclFault.Nodes
+        → Outgrows arena.old (type_of version (table_of arena.old.nodes table.old) descriptor ∷ []) }
+    ensures full { IsErrOf result DeclFault.Nodes → length arena.new.nodes ≡ arena.new.limit }
+{
+    let Descriptor { start, end, flat } = descriptor;
+    let node = add_flat(alloc, version, flat, table, arena)?;
+    table.insert(start, Finished { end, node })?;
+    Ok(())
 }
 
 /// The name without the offsets of its texts.
