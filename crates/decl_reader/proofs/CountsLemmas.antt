@@ -11,7 +11,7 @@ use Rattle.decl_spelling.proofs.Lengths.{block_length, decl_lies, decl_lengths}
 use Rattle.decl_spelling.specs.Tables.{Table}
 use Rattle.decl_reader.specs.Places.{IsStacked, EndsBy, bytes_of}
 use Rattle.decl_reader.specs.Progress.{Counts}
-use Rattle.decl_reader.specs.Wholes.{reached}
+use Rattle.decl_reader.specs.Wholes.{reached, CountsReached}
 
 -- blocks that share no byte have no more bytes than the section
 stacked_bytes : (low limit : ℕ) (es : Table) → low ≤ limit → IsStacked es → AllByRecursion (λ e. low ≤ e.0) es → EndsBy limit es → bytes_of es + low ≤ limit
@@ -59,3 +59,10 @@ module _ (src : Sections) (basics : Basics) (holds : HoldsBytes src) (offset : �
 
   pub counts_reached : (old new : ℕ) → new ≡ old + reached src offset x → IfOk (read_at src basics offset) (λ read. new ≡ old + reached src offset read)
   counts_reached old new counted = subst (λ (r : Result Read ByteFault). IfOk r (λ read. new ≡ old + reached src offset read)) (sym is) counted
+
+-- the same of the counter as it is called elsewhere
+pub counted_as : {X E : Type 0} (src : Sections) (basics : Basics) (offset : ℕ) (r : Result X E) (before after last : ℕ) → CountsReached src basics offset r before after → after ≡ last → CountsReached src basics offset r before last
+counted_as {X} {E} src basics offset r before after last counted same = subst (λ (n : ℕ). CountsReached src basics offset r before n) same counted
+
+pub at_most_as : (after last most : ℕ) → after ≤ most → after ≡ last → last ≤ most
+at_most_as after last most le same = omega (arith, le, same)

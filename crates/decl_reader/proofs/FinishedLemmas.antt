@@ -97,7 +97,7 @@ module _ (version : ℕ) where
 
 -- ---- each type stands in the table
 
-pub Stands : Table → Tree → Type 0
+unfoldable pub Stands : Table → Tree → Type 0
 Stands done t = (o : ℕ) × (f : Finished) × (at done o ≡ Some f) × (f.tree ≡ t)
 
 module _ (version : ℕ) where

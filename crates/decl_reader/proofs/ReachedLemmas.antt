@@ -14,6 +14,7 @@ use Rattle.type_terms.specs.Additions.{StandsIn, Covers}
 use Rattle.type_terms.specs.AdditionLaws.{covers_each, stands_itself}
 use Rattle.decl_spelling.specs.declared.mention.Mention.{Mention}
 use Rattle.decl_spelling.specs.Sections.{Sections, Basics, HoldsBytes, window}
+use Rattle.decl_spelling.specs.Codes.{basic_of}
 use Rattle.decl_spelling.specs.Reading.{Ahead, Stopped, start, list_at}
 use Rattle.decl_spelling.specs.Spelled.{SpelledPos, SpelledType}
 use Rattle.decl_spelling.specs.Descriptors.{Flat, flat_at}
@@ -60,36 +61,33 @@ module _ (src : Sections) (read_block : ReadsBlock) (leaves : LeavesBlock) (brin
   one_brought : (m : Mention) (done known : Table) → resolve src read_block holder m done ≡ Ok known → Brought done known (left_by_type leaves holder m.value done)
   one_brought m done known e = by (nat_lt m.value 32) refl
     where
-      abbrev off : ℕ
-      off = m.value - 32
-
       typed : with_type src read_block holder m done ≡ Ok known
       typed =
           let first = bind_ok (with_type src read_block holder m done) (λ mid. demand (meets m.asked (type_named src.version mid m.value)) (unmet m m.asked) >>= λ met. Ok mid) known e in
           let second = bind_ok (demand (meets m.asked (type_named src.version first.0 m.value)) (unmet m m.asked)) (λ met. Ok first.0) known first.2 in
           first.1 ∙ second.2
 
-      found : nat_lt m.value 32 ≡ false → nat_lt off holder ≡ true → (a : Option Finished) → at done off ≡ a → found_or_read read_block holder m done a ≡ Ok known → Brought done known (left_by_type leaves holder m.value done)
+      found : nat_lt m.value 32 ≡ false → nat_lt (m.value - 32) holder ≡ true → (a : Option Finished) → at done (m.value - 32) ≡ a → found_or_read read_block holder m done a ≡ Ok known → Brought done known (left_by_type leaves holder m.value done)
       found large before (Some f) is h =
           let tests = bind_ok (demand (nat_le f.end holder) (faults.Range m.at m.value)) (λ u. Ok done) known h in
           none_brought done known (left_by_type leaves holder m.value done) (done_is done known tests.2)
       found large before None is h =
-          let brought = brings off holder done known (named_ok m (read_block off holder done) known h) in
-          let opened : left_by_type leaves holder m.value done ≡ leaves off holder done
-          = ap (λ b. cond (cond b false (cond (nat_lt off holder) (not (is_some (at done off))) false)) (leaves off holder done) []) large
-          ∙ ap (λ b. cond (cond b (not (is_some (at done off))) false) (leaves off holder done) []) before
-          ∙ ap (λ (a : Option Finished). cond (not (is_some a)) (leaves off holder done) []) is in
+          let brought = brings (m.value - 32) holder done known (named_ok m (read_block (m.value - 32) holder done) known h) in
+          let opened : left_by_type leaves holder m.value done ≡ leaves (m.value - 32) holder done
+          = ap (λ b. cond (cond b false (cond (nat_lt (m.value - 32) holder) (not (is_some (at done (m.value - 32)))) false)) (leaves (m.value - 32) holder done) []) large
+          ∙ ap (λ b. cond (cond b (not (is_some (at done (m.value - 32)))) false) (leaves (m.value - 32) holder done) []) before
+          ∙ ap (λ (a : Option Finished). cond (not (is_some a)) (leaves (m.value - 32) holder done) []) is in
           subst (Brought done known) (sym opened) brought
 
       by : (small : Bool) → nat_lt m.value 32 ≡ small → Brought done known (left_by_type leaves holder m.value done)
       by true small =
           let basic : with_basic src.version m done ≡ Ok known = sym (ap (λ b. cond b (with_basic src.version m done) (with_descriptor read_block holder m done)) small) ∙ typed in
-          let tests = bind_ok (demand (is_some _) (faults.Range m.at m.value)) (λ u. Ok done) known basic in
+          let tests = bind_ok (demand (is_some (basic_of src.version m.value)) (faults.Range m.at m.value)) (λ u. Ok done) known basic in
           none_brought done known (left_by_type leaves holder m.value done) (done_is done known tests.2)
       by false large =
           let block : with_descriptor read_block holder m done ≡ Ok known = sym (ap (λ b. cond b (with_basic src.version m done) (with_descriptor read_block holder m done)) large) ∙ typed in
-          let tests = bind_ok (demand (nat_lt off holder) (faults.Range m.at m.value)) (λ before. found_or_read read_block holder m done (at done off)) known block in
-          found large (demand_ok (nat_lt off holder) (faults.Range m.at m.value) tests.0 tests.1) (at done off) refl tests.2
+          let tests = bind_ok (demand (nat_lt (m.value - 32) holder) (faults.Range m.at m.value)) (λ before. found_or_read read_block holder m done (at done (m.value - 32))) known block in
+          found large (demand_ok (nat_lt (m.value - 32) holder) (faults.Range m.at m.value) tests.0 tests.1) (at done (m.value - 32)) refl tests.2
 
   all_brought : (ms : List Mention) (done known : Table) → resolve_all src read_block holder ms done ≡ Ok known → Brought done known (left_by_types src read_block leaves holder ms done)
   all_brought [] done known e = none_brought done known [] (done_is done known e)

@@ -31,6 +31,7 @@ use crate::reading::Reading;
 use block_reader::{Block, DeclHead, DeclParts, read_declaration_head};
 use file_parts::Parts;
 use std::alloc::Global;
+use std::mem::replace;
 use std::sync::ledger::Ledger;
 use steps::Steps;
 use type_terms::{Arena, DeclNode};
@@ -95,12 +96,42 @@ fn read_spelled<B: Basics, L: Ledger>(
         places: Places::new(alloc),
         steps,
     };
-    let decl = reading.read_whole(parts, offset, basics, &mut block)?;
-    let Reading { finished, .. } = reading;
-    Ok(Spelled { decl, finished })
+    let read = reading.read_out(parts, offset, basics, &mut block);
+    let Reading {
+        alloc: _alloc,
+        finished: _finished,
+        places: _places,
+        steps: _steps,
+    } = reading;
+    read
 }
 
 impl<L: Ledger> Reading<'_, L> {
+    /// The declaration, and all descriptors that were read whole, which are taken out.
+    fn read_out<B: Basics>(
+        &mut self,
+        parts: &Parts<'_>,
+        offset: u64,
+        basics: &B,
+        block: &mut Block<'_>,
+    ) -> Result<Spelled, ReadFault>
+        requires of_file { IsOfFile parts.now }
+        requires bytes { HoldsBytes (sections_of parts.now) }
+        requires inside { offset < parts.now.body_len }
+        requires block { ahead_of block.old ≡ start (window (sections_of parts.now) offset parts.now.body_len) }
+        requires empty { self.old.finished.items ≡ [] }
+        requires none_placed { self.old.places ≡ [] }
+        ensures exact { ReadsSpelled (sections_of parts.now) (B.meaning basics.now) offset result }
+        ensures counted { CountsReached (sections_of parts.now) (B.meaning basics.now) offset result
+            self.old.steps.now self.new.steps.now }
+        ensures at_most { self.new.steps.now ≤ self.old.steps.now + parts.now.body_len }
+        ensures same_steps { self.new.steps.ghost_name ≡ self.old.steps.ghost_name }
+    {
+        let decl = self.read_whole(parts, offset, basics, block)?;
+        let finished = replace(&mut self.finished, Vec::new(self.alloc));
+        Ok(Spelled { decl, finished })
+    }
+
     /// The declaration, by the deciding function alone.
     fn read_whole<B: Basics>(
         &mut self,

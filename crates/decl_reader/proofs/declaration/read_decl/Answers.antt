@@ -41,3 +41,22 @@ returns-clause-outgrown g c wants =
     let inside : c.args.offset < c.args.parts.now.body_len = c.requires.inside in
     outgrown_by_more c.args.arena.now (types_read src basics c.args.offset) (types_reached src.version s) (reached_covers src basics c.read_spelled.ensures.bytes c.args.offset (omega (arith, size, inside)) s.decl s.finished.items c.in_ok-spelled.ensures.exact)
     (c.add_spelled.ensures.outgrown wants)
+
+pub returns-clause-found : goal.returns-clause-found
+returns-clause-found g c =
+    let src = sections_of c.args.parts.now in
+    let basics = g.B.Basics.meaning c.args.basics.now in
+    let s = c.in_ok-spelled.spelled in
+    let nodes = c.add_spelled.new.arena.nodes in
+    is_spelled src basics c.args.offset nodes c.add_spelled.result c.read_spelled.ensures.bytes
+    (kept_is src basics c.args.offset s.decl s.finished.items nodes c.add_spelled.result c.in_ok-spelled.ensures.exact c.add_spelled.ensures.denotes c.add_spelled.ensures.only_memory)
+
+pub returns-clause-proper : goal.returns-clause-proper
+returns-clause-proper g c =
+    let src = sections_of c.args.parts.now in
+    let basics = g.B.Basics.meaning c.args.basics.now in
+    let s = c.in_ok-spelled.spelled in
+    let nodes = c.add_spelled.new.arena.nodes in
+    read_proper src basics c.args.offset nodes c.add_spelled.result
+    (is_spelled src basics c.args.offset nodes c.add_spelled.result c.read_spelled.ensures.bytes
+    (kept_is src basics c.args.offset s.decl s.finished.items nodes c.add_spelled.result c.in_ok-spelled.ensures.exact c.add_spelled.ensures.denotes c.add_spelled.ensures.only_memory))
