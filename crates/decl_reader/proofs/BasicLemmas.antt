@@ -3,9 +3,8 @@ use Rattle.std.proofs.Common.{◌≡◌, ℕ, ◌-◌, ◌<◌, ◌≤◌, ◌�
 use Rattle.std.proofs.lemmas.Bool.{cases_lt}
 use Rattle.code_tables.specs.declared.predeclared.Basic.{Basic}
 use Rattle.type_terms.specs.Shapes.{retype}
-use Rattle.type_terms.specs.Trees.{Tree, tree_of}
+use Rattle.type_terms.specs.Trees.{tree_of}
 use Rattle.decl_spelling.specs.Sections.{Sections, Basics}
-use Rattle.decl_spelling.specs.Codes.{basic_of}
 use Rattle.decl_spelling.specs.Constants.{generic_basic, basic_type}
 use Rattle.decl_spelling.specs.Descent.{is_generic}
 use Rattle.decl_spelling.specs.KnownTypes.{Kept}

@@ -20,7 +20,7 @@ use Rattle.std.proofs.Math.Nat.{one-le-pow, pow-le-pow_right, pow-suc, suc-mul, 
 use Rattle.std.proofs.lemmas.List.{reverse-append, reverse-reverse}
 use Rattle.decl_reader.specs.declared.descent.Open.{Open}
 use Rattle.decl_reader.specs.Frames.{closed, closed_by, resume}
-use Rattle.decl_reader.specs.Opens.{IsOpen, IsOwn, IsBelow, IsBegun, IsClosed, EndsBefore, AreHolders, Begins, Resolves, reads, resumed, frame_from, frame_of, holder_of, own_shape}
+use Rattle.decl_reader.specs.Opens.{IsOpen, IsOwn, IsBelow, IsBegun, IsClosed, EndsBefore, AreHolders, Begins, Resolves, reads, resumed, frame_of, holder_of, own_shape}
 use Rattle.decl_reader.proofs.ResumeLemmas.{turn_known, turn_fault, turn_opens, turn_closes}
 
 -- one more of its mentions is known

@@ -1,14 +1,12 @@
 -- The list of the descriptors that were read whole, and the table that it makes.
-use Rattle.std.proofs.Common.{◌≡◌, ◌≢◌, ℕ, zero, suc, ◌+◌, ◌-◌, ◌<◌, ◌≤◌, ◌⊎◌, inl, inr, List, [], ◌∷◌, ◌++◌, length, map, Contains, true, false, Option, Some, None, refl, sym, ap, subst, ◌∙◌, arith, length-append}
+use Rattle.std.proofs.Common.{◌≡◌, ℕ, zero, suc, ◌<◌, List, [], ◌∷◌, ◌++◌, length, Some, refl, sym, ap, subst, ◌∙◌, arith}
 use Rattle.std.specs.Prelude.{slice_index_or}
 use Rattle.std.specs.List.{AllByRecursion}
-use Rattle.std.proofs.lemmas.Bool.{cases_lt}
-use Rattle.type_terms.specs.Trees.{Tree, predeclared, tree_of}
+use Rattle.type_terms.specs.Trees.{Tree, tree_of}
 use Rattle.type_terms.specs.Shapes.{retype}
-use Rattle.decl_spelling.specs.Tables.{Finished, Table, at, with_block, type_named, tree_spelled}
+use Rattle.decl_spelling.specs.Tables.{Finished, Table, at, type_named}
 use Rattle.decl_spelling.specs.KnownTypes.{Kept}
-use Rattle.decl_spelling.proofs.TableLaws.{first_has, later_has, found_new}
-use Rattle.block_reader.specs.Parts.{flat_spelled}
+use Rattle.decl_spelling.proofs.TableLaws.{found_new}
 use Rattle.decl_reader.specs.declared.finished.Descriptor.{Descriptor}
 use Rattle.decl_reader.specs.Shapes.{flat_shape}
 use Rattle.decl_reader.specs.Finished.{type_of, joined, known_after, known_of, types_after, types_of, nth, type_at, MayJoin, AreInTurn}

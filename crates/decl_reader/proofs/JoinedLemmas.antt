@@ -4,8 +4,8 @@ use Rattle.type_terms.specs.Trees.{Tree}
 use Rattle.decl_spelling.specs.Tables.{Finished, Table, with_block}
 use Rattle.decl_reader.specs.declared.finished.Descriptor.{Descriptor}
 use Rattle.decl_reader.specs.declared.places.Place.{Place}
-use Rattle.decl_reader.specs.Finished.{type_of, joined, known_of, type_at, MayJoin, AreInTurn}
-use Rattle.decl_reader.specs.Places.{PlaceEntry, placed_as, placed_of, with_place, AllPlaced, EndsBy, HasRoom, IsStacked, bytes_of}
+use Rattle.decl_reader.specs.Finished.{type_of, joined, known_of, type_at, MayJoin}
+use Rattle.decl_reader.specs.Places.{PlaceEntry, placed_as, placed_of, with_place, EndsBy, HasRoom, IsStacked, bytes_of}
 use Rattle.decl_reader.specs.Progress.{IsReady, Counts}
 use Rattle.decl_reader.proofs.EntryLemmas.{added_table, added_below, below_more, added_ends, added_stacked, added_bytes}
 use Rattle.decl_reader.proofs.FinishedLemmas.{known_last, turn_last, type_of_last, places_stay}

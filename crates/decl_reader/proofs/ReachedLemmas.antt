@@ -1,5 +1,5 @@
 -- Each type in the table of a declaration is one that its reading leaves, so it stands in the declaration's types.
-use Rattle.std.proofs.Common.{◌≡◌, ◌≢◌, ℕ, zero, suc, ◌-◌, ◌<◌, ◌≤◌, ◌⊎◌, inl, inr, List, [], ◌∷◌, ◌++◌, length, Contains, Bool, true, false, not, cond, Result, Ok, Err, Option, Some, None, nat_lt, nat_le, is_some, refl, sym, ◌∙◌, ap, subst, arith}
+use Rattle.std.proofs.Common.{◌≡◌, ℕ, zero, suc, ◌-◌, ◌<◌, ◌≤◌, ◌⊎◌, inl, inr, List, [], ◌∷◌, ◌++◌, length, Contains, Bool, true, false, not, cond, Result, Ok, Err, Option, Some, None, nat_lt, nat_le, is_some, refl, sym, ◌∙◌, ap, subst, arith}
 use Rattle.std.specs.List.{AllByRecursion}
 use Rattle.std.proofs.lemmas.Bool.{cases_lt}
 use Rattle.std.proofs.lemmas.List.Elements.{Contains-append_left, Contains-append_right, All-contains, All-from_recursion}
@@ -21,7 +21,7 @@ use Rattle.decl_spelling.specs.Descriptors.{Flat, flat_at}
 use Rattle.decl_spelling.specs.Tables.{Finished, Table, at, with_block, free_to, type_named, type_spelled, tree_spelled}
 use Rattle.decl_spelling.specs.Descent.{ReadsBlock, meets, unmet, found_or_read, with_basic, with_descriptor, with_type, resolve, resolve_all, finish, block_at, offset_of}
 use Rattle.decl_spelling.specs.Constants.{basic_type, spelling_at, value_at}
-use Rattle.decl_spelling.specs.Declarations.{Head, Read, Receiver, whole, of_type, of_constant, read, head_at, receiver_at, has_methods, resolved, methods_of, after_type, fault_alone, after_constant, after_head, read_at}
+use Rattle.decl_spelling.specs.Declarations.{Head, Read, whole, of_type, of_constant, read, head_at, receiver_at, has_methods, resolved, methods_of, after_type, fault_alone, after_head, read_at}
 use Rattle.decl_spelling.specs.Leaving.{LeavesBlock, if_well, left_by_type, left_by_types, left_by_block, left_at, left_by_named, left_by_part, left_by_methods, left_after_head, left_by_decl, types_read}
 use Rattle.decl_spelling.proofs.MapLemmas.{all_weaker}
 use Rattle.decl_spelling.proofs.TableLaws.{first_has, later_has, found_new, found_still, some_is}

@@ -1,4 +1,4 @@
-use Rattle.std.proofs.Common.{◌<◌, ◌≤◌, ap, sym, ◌∙◌, length, Err, rules, arith, List}
+use Rattle.std.proofs.Common.{◌<◌, ap, ◌∙◌, Err, arith}
 use Rattle.std.proofs.lemmas.Result.{err_from_is_err_and}
 use Rattle.type_terms.specs.AdditionLaws.{adds_more, outgrown_by_more}
 use Rattle.decl_spelling.specs.Leaving.{types_read}
@@ -6,7 +6,6 @@ use Rattle.block_reader.specs.Calls.{sections_of}
 use Rattle.decl_reader.specs.declared.fault.DeclFault.{DeclFault}
 use Rattle.decl_reader.specs.Wholes.{types_reached}
 use Rattle.decl_reader.proofs.BegunLemmas.{body_length}
-use Rattle.decl_reader.proofs.CountsLemmas.{if_either}
 use Rattle.decl_reader.proofs.ProperDeclLemmas.{read_proper}
 use Rattle.decl_reader.proofs.ReachedLemmas.{reached_covers}
 use Rattle.decl_reader.proofs.WholeLemmas.{is_spelled, fault_kept, kept_is}

@@ -1,15 +1,13 @@
-use Rattle.std.proofs.Common.{◌≡◌, ◌++◌, List, ap, sym, subst, ◌∙◌}
-use Rattle.std.specs.Prelude.{IfOk, IsErrOf}
+use Rattle.std.proofs.Common.{◌≡◌, ◌++◌, List, ap, subst}
+use Rattle.std.specs.Prelude.{IfOk}
 use Rattle.std.proofs.lemmas.Result.{err_from_is_err_and}
 use Rattle.type_terms.specs.Additions.{AddsOnly, Outgrows}
 use Rattle.type_terms.specs.AdditionLaws.{covers_left, covers_right, adds_more, additions_join, outgrown_by_more, want_of_nodes_joins}
 use Rattle.type_terms.specs.Declarations.{decl_of, form_types}
 use Rattle.type_terms.specs.Trees.{Tree}
 use Rattle.decl_spelling.specs.Tables.{Table}
-use Rattle.decl_reader.specs.declared.fault.DeclFault.TheVariants.{Nodes}
 use Rattle.decl_reader.specs.Finished.{known_of, types_of}
 use Rattle.decl_reader.specs.Meant.{decl_by}
-use Rattle.decl_reader.specs.Wholes.{types_reached}
 use Rattle.decl_reader.proofs.WantLemmas.{passed}
 use Rattle.decl_reader.proofs.nodes.declarations.add_spelled.Goals as goal
 

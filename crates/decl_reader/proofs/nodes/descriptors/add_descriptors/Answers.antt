@@ -1,7 +1,6 @@
 use Rattle.std.proofs.Common.{◌≡◌, ◌∷◌, [], ◌++◌, List, length, ap, sym, subst, ◌∙◌, arith, rules}
 use Rattle.std.specs.Vec.Iter.{into_iter_items}
 use Rattle.std.proofs.lemmas.Result.{err_from_is_err_and}
-use Rattle.type_terms.specs.Trees.{Tree}
 use Rattle.type_terms.specs.Additions.{Covers}
 use Rattle.type_terms.specs.AdditionLaws.{covers_left, covers_right, covers_again, adds_more, additions_join, outgrown_by_more, want_of_nodes_joins}
 use Rattle.type_terms.specs.Extensions.{extends_again}

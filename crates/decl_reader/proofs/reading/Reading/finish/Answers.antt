@@ -1,12 +1,11 @@
-use Rattle.std.proofs.Common.{◌≡◌, ◌-◌, ◌<◌, ◌≤◌, ℕ, Result, List, [], ◌∷◌, ◌++◌, length, sym, ap, subst, ◌∙◌, arith, rules, None, Err, Ok}
-use Rattle.std.proofs.lemmas.Result.{err_from_is_err_and}
+use Rattle.std.proofs.Common.{sym, ap, subst, ◌∙◌, arith, rules, Ok}
 use Rattle.block_reader.specs.Calls.{sections_of}
 use Rattle.block_reader.specs.Parts.{flat_spelled}
 use Rattle.decl_spelling.specs.Tables.{Table, type_named}
 use Rattle.decl_reader.specs.declared.finished.Descriptor.{Descriptor}
 use Rattle.decl_reader.specs.Finished.{MayJoin, known_of}
-use Rattle.decl_reader.specs.Opens.{Resolves, IsFinished, checked_type}
-use Rattle.decl_reader.specs.Places.{HasRoom, bytes_of}
+use Rattle.decl_reader.specs.Opens.{IsFinished, checked_type}
+use Rattle.decl_reader.specs.Places.{bytes_of}
 use Rattle.decl_reader.specs.Progress.{known}
 use Rattle.decl_reader.proofs.ClosedLemmas.{none_found, joined_ok, joined_fault, joined_finished}
 use Rattle.decl_reader.proofs.EntryLemmas.{added_room}
