@@ -33,7 +33,7 @@ Unlike sides depth x y = (p : Pair) × Contains (decl_pairs x y) p × (Id sides 
 module _ (sides : Sides)
     (same : (starts : List Pair) → (compared sides starts).end ≡ by_itself → AllByRecursion (λ p. Identical sides p.left p.right) starts)
     (differ : (starts : List Pair) (depth : ℕ) → (compared sides starts).end ≡ apart depth
-      → (p : Pair) × Contains starts p × (Id sides depth p.left p.right → ⊥)) where
+    → (p : Pair) × Contains starts p × (Id sides depth p.left p.right → ⊥)) where
   by_head : (x y : Decl) (b : Bool) → same_head x y ≡ b → cond b (compared sides (decl_pairs x y)).end (apart 0) ≡ by_itself → Alike sides x y
   by_head x y true is ends = (is, same (decl_pairs x y) ends)
   by_head x y false is ends = absurd cc
