@@ -16,9 +16,9 @@ use crate::nodes::descriptors::add_descriptors;
 use crate::nodes::kept::Kept;
 use crate::nodes::numbers::Numbers;
 use crate::table::Table;
-use block_reader::DeclParts;
+use block_reader::{DeclParts, SpelledConst, SpelledPos};
 use std::alloc::Global;
-use type_terms::{Arena, DeclNode};
+use type_terms::{Arena, DeclNode, MethodList, NodeId, Nodes, Sig};
 
 /// The declaration with the types that its numbers name.
 fn add_declaration(
@@ -100,26 +100,17 @@ impl Kept for DeclParts {
                 let ty = ty.with_nodes(alloc, version, table, arena)?;
                 Ok(DeclNode::Var { pos: pos.pos, ty })
             }
+            DeclParts::Constant { pos, ty, value } => {
+                let ty = ty.with_nodes(alloc, version, table, arena)?;
+                Ok(constant_node(pos, ty, value))
+            }
             DeclParts::Func {
                 pos,
                 tparams,
                 signature,
             } => {
                 let types = (Numbers { items: tparams }, signature);
-                let (tparams, sig) = types.with_nodes(alloc, version, table, arena)?;
-                Ok(DeclNode::Func {
-                    pos: pos.pos,
-                    tparams,
-                    sig,
-                })
-            }
-            DeclParts::Constant { pos, ty, value } => {
-                let ty = ty.with_nodes(alloc, version, table, arena)?;
-                Ok(DeclNode::Constant {
-                    pos: pos.pos,
-                    ty,
-                    value: value.value,
-                })
+                Ok(func_node(pos, types.with_nodes(alloc, version, table, arena)?))
             }
             DeclParts::Defined {
                 pos,
@@ -128,24 +119,11 @@ impl Kept for DeclParts {
                 methods,
             } => {
                 let types = (Numbers { items: tparams }, (underlying, methods));
-                let (tparams, (underlying, methods)) = types.with_nodes(
-                    alloc, version, table, arena,
-                )?;
-                Ok(DeclNode::Defined {
-                    pos: pos.pos,
-                    tparams,
-                    underlying,
-                    methods,
-                })
+                Ok(defined_node(pos, types.with_nodes(alloc, version, table, arena)?))
             }
             DeclParts::Alias { pos, tparams, ty } => {
                 let types = (Numbers { items: tparams }, ty);
-                let (tparams, ty) = types.with_nodes(alloc, version, table, arena)?;
-                Ok(DeclNode::Alias {
-                    pos: pos.pos,
-                    tparams,
-                    ty,
-                })
+                Ok(alias_node(pos, types.with_nodes(alloc, version, table, arena)?))
             }
             DeclParts::Parameter {
                 pos,
@@ -153,12 +131,65 @@ impl Kept for DeclParts {
                 constraint,
             } => {
                 let constraint = constraint.with_nodes(alloc, version, table, arena)?;
-                Ok(DeclNode::Parameter {
-                    pos: pos.pos,
-                    implicit,
-                    constraint,
-                })
+                Ok(parameter_node(pos, implicit, constraint))
             }
         }
+    }
+}
+
+fn constant_node(pos: SpelledPos, ty: NodeId, value: SpelledConst) -> DeclNode
+    ensures { result ≡ DeclNode.Constant pos.pos ty value.value }
+{
+    DeclNode::Constant {
+        pos: pos.pos,
+        ty,
+        value: value.value,
+    }
+}
+
+/// A function, by its type parameters and its signature.
+fn func_node(pos: SpelledPos, types: (Nodes, Sig)) -> DeclNode
+    ensures { result ≡ DeclNode.Func pos.pos types.0 types.1 }
+{
+    let (tparams, sig) = types;
+    DeclNode::Func {
+        pos: pos.pos,
+        tparams,
+        sig,
+    }
+}
+
+/// A defined type, by its type parameters, its underlying type and its methods.
+fn defined_node(pos: SpelledPos, types: (Nodes, (NodeId, MethodList))) -> DeclNode
+    ensures { result ≡ DeclNode.Defined pos.pos types.0 types.1.0 types.1.1 }
+{
+    let (tparams, (underlying, methods)) = types;
+    DeclNode::Defined {
+        pos: pos.pos,
+        tparams,
+        underlying,
+        methods,
+    }
+}
+
+/// An alias, by its type parameters and the type that it stands for.
+fn alias_node(pos: SpelledPos, types: (Nodes, NodeId)) -> DeclNode
+    ensures { result ≡ DeclNode.Alias pos.pos types.0 types.1 }
+{
+    let (tparams, ty) = types;
+    DeclNode::Alias {
+        pos: pos.pos,
+        tparams,
+        ty,
+    }
+}
+
+fn parameter_node(pos: SpelledPos, implicit: bool, constraint: NodeId) -> DeclNode
+    ensures { result ≡ DeclNode.Parameter pos.pos implicit constraint }
+{
+    DeclNode::Parameter {
+        pos: pos.pos,
+        implicit,
+        constraint,
     }
 }

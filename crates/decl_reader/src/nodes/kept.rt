@@ -91,7 +91,7 @@ pub(crate) fn all_with_nodes<T: Kept>(
         (map (named_by version arena.old.nodes table.now) (flat_map T.types (map T.shape parts.items))) }
     ensures full { IsErrOf result DeclFault.Nodes → length arena.new.nodes ≡ arena.new.limit }
 {
-    let mut kept = Vec::new(alloc);
+    let mut kept = Vec::with_capacity(alloc, parts.len())?;
     for part in parts {
         let item = part.with_nodes(alloc, version, table, arena)?;
         kept.push(item)?;

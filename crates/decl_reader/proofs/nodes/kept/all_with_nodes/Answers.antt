@@ -61,7 +61,7 @@ returns-in_err-item-clause-adds g c =
 
 pub returns-in_err-item-clause-outgrown : goal.returns-in_err-item-clause-outgrown
 returns-in_err-item-clause-outgrown g c wants =
-    let p = err_from_is_err_and c.from_residual.result c.from_residual.ensures.1 in
+    let p = err_from_is_err_and c.from_residual-in_err-item.result c.from_residual-in_err-item.ensures.1 in
     let t = g.T.Kept in
     let at = c.loop-part in
     let named : Named = named_by c.args.version c.args.arena.now.nodes c.args.table.now in
@@ -71,7 +71,7 @@ returns-in_err-item-clause-outgrown g c wants =
     let covers = rw steps at at.invariant.covers in
     let its_own = head_covered t.types named all (t.shape c.in-Some.part) (map t.shape left) covers in
     more_outgrown c.args.version c.args.table.now c.args.arena.now at.arena c.with_nodes.new.arena c.requires.inside all (t.types (t.shape c.in-Some.part)) at.invariant.extends at.invariant.adds its_own
-    (c.with_nodes.ensures.outgrown (passed c.from_residual.result c.with_nodes.result p.0 c.in_err-item.field-0.0 p.1 p.2 c.in_err-item.was wants))
+    (c.with_nodes.ensures.outgrown (passed c.from_residual-in_err-item.result c.with_nodes.result p.0 c.in_err-item.field-0.0 p.1 p.2 c.in_err-item.was wants))
 
 pub returns-in_err-push-clause-adds : goal.returns-in_err-push-clause-adds
 returns-in_err-push-clause-adds g c =

@@ -10,20 +10,20 @@ pub returns-in_err-ty-in-Var-clause-adds : goal.returns-in_err-ty-in-Var-clause-
 returns-in_err-ty-in-Var-clause-adds c =
     subst (λ (x : DeclParts). AddsOnly (map (named_by c.args.version c.args.arena.now.nodes c.args.table.now) (form_types (decl_form x))) c.args.arena.now c.with_nodes.new.arena) (sym c.in-Var.is) c.with_nodes.ensures.adds
 
-pub returns-in_err-tparams-in-Func-clause-adds : goal.returns-in_err-tparams-in-Func-clause-adds
-returns-in_err-tparams-in-Func-clause-adds c =
+pub returns-in_err-with_nodes-in-Func-clause-adds : goal.returns-in_err-with_nodes-in-Func-clause-adds
+returns-in_err-with_nodes-in-Func-clause-adds c =
     subst (λ (x : DeclParts). AddsOnly (map (named_by c.args.version c.args.arena.now.nodes c.args.table.now) (form_types (decl_form x))) c.args.arena.now c.with_nodes-in-Func.new.arena) (sym c.in-Func.is) c.with_nodes-in-Func.ensures.adds
 
 pub returns-in_err-ty-in-Constant-clause-adds : goal.returns-in_err-ty-in-Constant-clause-adds
 returns-in_err-ty-in-Constant-clause-adds c =
     subst (λ (x : DeclParts). AddsOnly (map (named_by c.args.version c.args.arena.now.nodes c.args.table.now) (form_types (decl_form x))) c.args.arena.now c.with_nodes-in-Constant.new.arena) (sym c.in-Constant.is) c.with_nodes-in-Constant.ensures.adds
 
-pub returns-in_err-tparams-in-Defined-clause-adds : goal.returns-in_err-tparams-in-Defined-clause-adds
-returns-in_err-tparams-in-Defined-clause-adds c =
+pub returns-in_err-with_nodes-in-Defined-clause-adds : goal.returns-in_err-with_nodes-in-Defined-clause-adds
+returns-in_err-with_nodes-in-Defined-clause-adds c =
     subst (λ (x : DeclParts). AddsOnly (map (named_by c.args.version c.args.arena.now.nodes c.args.table.now) (form_types (decl_form x))) c.args.arena.now c.with_nodes-in-Defined.new.arena) (sym c.in-Defined.is) c.with_nodes-in-Defined.ensures.adds
 
-pub returns-in_err-tparams-in-Alias-clause-adds : goal.returns-in_err-tparams-in-Alias-clause-adds
-returns-in_err-tparams-in-Alias-clause-adds c =
+pub returns-in_err-with_nodes-in-Alias-clause-adds : goal.returns-in_err-with_nodes-in-Alias-clause-adds
+returns-in_err-with_nodes-in-Alias-clause-adds c =
     subst (λ (x : DeclParts). AddsOnly (map (named_by c.args.version c.args.arena.now.nodes c.args.table.now) (form_types (decl_form x))) c.args.arena.now c.with_nodes-in-Alias.new.arena) (sym c.in-Alias.is) c.with_nodes-in-Alias.ensures.adds
 
 pub returns-in_err-constraint-in-Parameter-clause-adds : goal.returns-in_err-constraint-in-Parameter-clause-adds
@@ -34,20 +34,20 @@ pub returns-in_ok-ty-in-Var-clause-adds : goal.returns-in_ok-ty-in-Var-clause-ad
 returns-in_ok-ty-in-Var-clause-adds c =
     subst (λ (x : DeclParts). AddsOnly (map (named_by c.args.version c.args.arena.now.nodes c.args.table.now) (form_types (decl_form x))) c.args.arena.now c.with_nodes.new.arena) (sym c.in-Var.is) c.with_nodes.ensures.adds
 
-pub returns-in_ok-tparams-in-Func-clause-adds : goal.returns-in_ok-tparams-in-Func-clause-adds
-returns-in_ok-tparams-in-Func-clause-adds c =
+pub returns-in_ok-with_nodes-in-Func-clause-adds : goal.returns-in_ok-with_nodes-in-Func-clause-adds
+returns-in_ok-with_nodes-in-Func-clause-adds c =
     subst (λ (x : DeclParts). AddsOnly (map (named_by c.args.version c.args.arena.now.nodes c.args.table.now) (form_types (decl_form x))) c.args.arena.now c.with_nodes-in-Func.new.arena) (sym c.in-Func.is) c.with_nodes-in-Func.ensures.adds
 
 pub returns-in_ok-ty-in-Constant-clause-adds : goal.returns-in_ok-ty-in-Constant-clause-adds
 returns-in_ok-ty-in-Constant-clause-adds c =
     subst (λ (x : DeclParts). AddsOnly (map (named_by c.args.version c.args.arena.now.nodes c.args.table.now) (form_types (decl_form x))) c.args.arena.now c.with_nodes-in-Constant.new.arena) (sym c.in-Constant.is) c.with_nodes-in-Constant.ensures.adds
 
-pub returns-in_ok-tparams-in-Defined-clause-adds : goal.returns-in_ok-tparams-in-Defined-clause-adds
-returns-in_ok-tparams-in-Defined-clause-adds c =
+pub returns-in_ok-with_nodes-in-Defined-clause-adds : goal.returns-in_ok-with_nodes-in-Defined-clause-adds
+returns-in_ok-with_nodes-in-Defined-clause-adds c =
     subst (λ (x : DeclParts). AddsOnly (map (named_by c.args.version c.args.arena.now.nodes c.args.table.now) (form_types (decl_form x))) c.args.arena.now c.with_nodes-in-Defined.new.arena) (sym c.in-Defined.is) c.with_nodes-in-Defined.ensures.adds
 
-pub returns-in_ok-tparams-in-Alias-clause-adds : goal.returns-in_ok-tparams-in-Alias-clause-adds
-returns-in_ok-tparams-in-Alias-clause-adds c =
+pub returns-in_ok-with_nodes-in-Alias-clause-adds : goal.returns-in_ok-with_nodes-in-Alias-clause-adds
+returns-in_ok-with_nodes-in-Alias-clause-adds c =
     subst (λ (x : DeclParts). AddsOnly (map (named_by c.args.version c.args.arena.now.nodes c.args.table.now) (form_types (decl_form x))) c.args.arena.now c.with_nodes-in-Alias.new.arena) (sym c.in-Alias.is) c.with_nodes-in-Alias.ensures.adds
 
 pub returns-in_ok-constraint-in-Parameter-clause-adds : goal.returns-in_ok-constraint-in-Parameter-clause-adds
