@@ -1,0 +1,7 @@
+mod ListLemmas
+mod SortLemmas
+mod LevelLemmas
+mod ChildLemmas
+mod SearchLemmas
+mod MadeLemmas
+mod MakingLemmas
