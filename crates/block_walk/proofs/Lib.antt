@@ -1,0 +1,4 @@
+mod KnownLemmas
+mod BoundLemmas
+mod GoingLemmas
+mod ComponentLemmas
