@@ -1,2 +1,1 @@
-pub mod RepeatLaws
 pub mod VarTypeLaws

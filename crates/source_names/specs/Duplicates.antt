@@ -1,10 +1,15 @@
 -- Names that are declared twice, or that may not be declared.
-use Rattle.std.specs.Prelude.{ℕ, suc, Bool, true, false, if◌then◌else◌, List, [], ◌∷◌, ◌++◌, Option, Some, None}
+use Rattle.std.specs.Prelude.{ℕ, suc, Bool, true, false, if◌then◌else◌, List, [], ◌∷◌, ◌++◌, Option, Some, None, map}
+use Rattle.std.specs.Str.{bytes_eq}
 use Rattle.go_type_syntax.specs.PlainTypes as t
-use Rattle.go_type_syntax.specs.PlainTypes.{PlainParams, PlainFields, PlainElems, signature, no_param}
+use Rattle.go_type_syntax.specs.PlainTypes.{PlainParams, PlainFields, PlainElems, PlainElem, signature}
+use Rattle.go_type_syntax.specs.PlainTypes.{no_param}
 use Rattle.go_type_syntax.specs.PlainTypes.{and_param, sharing, no_field, and_field, having, no_elem, and_elem, method}
 use Rattle.go_type_syntax.specs.PlainTypes.{embedded}
 use Rattle.source_places.specs.declared.places.Place.{Place}
+use Rattle.source_places.specs.declared.places.Found.{Found}
+use Rattle.repeated_names.specs.Names.{Named}
+use Rattle.repeated_names.specs.Repeats.{repeats, clashes}
 use Rattle.source_trees.specs.declared.literals.Literal.{Literal}
 use Rattle.source_trees.specs.Trees.{WrittenType, WrittenSig}
 use Rattle.source_trees.specs.Words.{Word}
@@ -12,8 +17,7 @@ use Rattle.source_trees.specs.Files.{WrittenImport, WrittenTParam, WrittenReceiv
 use Rattle.source_trees.specs.Files.{variables, defined, alias, func}
 use Rattle.source_walk.specs.Spots.{tparam_words, receiver_words}
 use Rattle.source_walk.specs.Visits.{Visit, a_file, a_top, a_type, an_expr, files_visits}
-use Rattle.source_names.specs.Names.{Named, same_text, init, words_at, files_named}
-use Rattle.source_names.specs.Repeats.{repeats, common}
+use Rattle.source_names.specs.Names.{init, word_place, words_at, files_named}
 
 -- ---- lists of names in a declaration
 
@@ -21,11 +25,15 @@ abbrev pub params_words : PlainParams Word Literal → List Word
 params_words no_param = []
 params_words (and_param (sharing names variadic ty at) ps) = names ++ params_words ps
 
--- the name of an embedded field: that of its type, without a package
+-- the name of a type that is written with its name alone, without a package
+abbrev pub named_word : WrittenType → List Word
+named_word (t.named x args at) = x.name ∷ []
+named_word _ = []
+
+-- the name of an embedded field: that of its type, or of the one that a pointer points to
 abbrev pub embedded_word : WrittenType → List Word
-embedded_word (t.named x args at) = x.name ∷ []
-embedded_word (t.pointer (t.named x args at) place) = x.name ∷ []
-embedded_word _ = []
+embedded_word (t.pointer ty at) = named_word ty
+embedded_word ty = named_word ty
 
 abbrev pub field_words : List Word → WrittenType → List Word
 field_words [] ty = embedded_word ty
@@ -35,10 +43,14 @@ abbrev pub fields_words : PlainFields Word Literal → List Word
 fields_words no_field = []
 fields_words (and_field (having names ty tag at) fs) = field_words names ty ++ fields_words fs
 
+abbrev pub elem_words : PlainElem Word Literal → List Word
+elem_words (method name sig at) = name ∷ []
+elem_words (embedded ty at) = []
+
+-- the methods of an interface
 abbrev pub methods_words : PlainElems Word Literal → List Word
 methods_words no_elem = []
-methods_words (and_elem (method name sig at) es) = name ∷ methods_words es
-methods_words (and_elem (embedded ty at) es) = methods_words es
+methods_words (and_elem e es) = elem_words e ++ methods_words es
 
 -- parameters and results are two lists
 abbrev pub in_sig : ℕ → WrittenSig → List Place
@@ -65,7 +77,7 @@ in_top file (func f) =
 abbrev pub inits : ℕ → List Word → List Place
 inits file [] = []
 inits file (w ∷ ws) =
-    if same_text w.text init then (record { file = file; at = w.at } ∷ inits file ws) else inits file ws
+    (if bytes_eq w.text init then word_place file w ∷ [] else []) ++ inits file ws
 
 abbrev pub is_bare : List WrittenTParam → WrittenSig → Bool
 is_bare [] (signature no_param no_param at) = true
@@ -111,21 +123,19 @@ import_words package_name (i ∷ is) = of_name i.name (package_name i.path) ++ i
     of_name None (Some name) = record { text = name; at = i.at } ∷ []
     of_name None None = []
 
--- the imports of each file against each other and against the names of the package
-abbrev pub import_duplicates : (List ℕ → Option (List ℕ)) → List Named → ℕ → List WrittenFile → List Place
-import_duplicates package_name all n [] = []
-import_duplicates package_name all n (f ∷ fs) =
-    repeats (words_at n (import_words package_name f.imports))
-    ++ common (words_at n (import_words package_name f.imports)) all
-    ++ import_duplicates package_name all (suc n) fs
+-- the names that the imports of each file declare, file by file
+abbrev pub imports_named : (List ℕ → Option (List ℕ)) → ℕ → List WrittenFile → List (List Named)
+imports_named package_name n [] = []
+imports_named package_name n (f ∷ fs) =
+    words_at n (import_words package_name f.imports) ∷ imports_named package_name (suc n) fs
 
 -- ---- package clauses
 
 -- the names in package clauses that differ from this one
 abbrev pub other_packages : List ℕ → ℕ → List WrittenFile → List Place
 other_packages name n [] = []
-other_packages name n (f ∷ fs) = if same_text f.name.text name then other_packages name (suc n) fs
-    else (record { file = n; at = f.name.at } ∷ other_packages name (suc n) fs)
+other_packages name n (f ∷ fs) =
+    (if bytes_eq f.name.text name then [] else word_place n f.name ∷ []) ++ other_packages name (suc n) fs
 
 abbrev pub package_duplicates : List WrittenFile → List Place
 package_duplicates [] = []
@@ -137,8 +147,21 @@ abbrev pub visited : List Visit → List Place
 visited [] = []
 visited (v ∷ vs) = duplicates_at v ++ visited vs
 
--- all places of the files of a package, where the names of packages are given by their paths
+-- All places of the files of a package, where the names of packages are given by their paths. The imports of a file
+-- are held against each other and against the names of the package.
 abbrev pub duplicates : (List ℕ → Option (List ℕ)) → List WrittenFile → List Place
 duplicates package_name files =
-    repeats (files_named 0 files) ++ import_duplicates package_name (files_named 0 files) 0 files
-    ++ package_duplicates files ++ visited (files_visits files)
+    clashes (files_named 0 files) (imports_named package_name 0 files) ++ package_duplicates files
+    ++ visited (files_visits files)
+
+-- a place with a cause that is the same for all
+abbrev pub found_at : {C : Type 0} → C → Place → Found C
+found_at cause place = record { place = place; cause = cause }
+
+-- the places of duplicates with their cause
+abbrev pub duplicates_found : {C : Type 0} → C → (List ℕ → Option (List ℕ)) → List WrittenFile → List (Found C)
+duplicates_found cause package_name files = map (found_at cause) (duplicates package_name files)
+
+-- the same at a visit
+abbrev pub duplicate_at : {C : Type 0} → C → Visit → List (Found C)
+duplicate_at cause visit = map (found_at cause) (duplicates_at visit)

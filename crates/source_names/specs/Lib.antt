@@ -1,4 +1,3 @@
 pub mod Names
-pub mod Repeats
 pub mod VarTypes
 pub mod Duplicates

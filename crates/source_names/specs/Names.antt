@@ -1,38 +1,34 @@
 -- The names that the files of a package declare, with their places.
-use Rattle.std.specs.Prelude.{nat_eq, ℕ, suc, Bool, if◌then◌else◌, List, [], ◌∷◌, ◌++◌, Option, Some, None}
-use Rattle.std.specs.Cmp.Lexicographic.{pointwise}
+use Rattle.std.specs.Prelude.{ℕ, suc, if◌then◌else◌, List, [], ◌∷◌, ◌++◌, Option, Some, None, codes}
+use Rattle.std.specs.Str.{bytes_eq}
 use Rattle.source_places.specs.declared.places.Place.{Place}
+use Rattle.repeated_names.specs.Names.{Named}
 use Rattle.source_trees.specs.Words.{Word}
 use Rattle.source_trees.specs.Files.{WrittenReceiver, WrittenTop, WrittenFile, constants, variables, defined, alias}
 use Rattle.source_trees.specs.Files.{func}
 
--- a name at a place
-pub record Named : Type 0 where
-  pub place : Place
-  pub text : List ℕ
-
-abbrev pub same_text : List ℕ → List ℕ → Bool
-same_text a b = pointwise nat_eq a b
-
 -- `_`, and `init`
 abbrev pub blank : List ℕ
-blank = 95 ∷ []
+blank = codes "_"
 
 abbrev pub init : List ℕ
-init = 105 ∷ 110 ∷ 105 ∷ 116 ∷ []
+init = codes "init"
+
+abbrev pub word_place : ℕ → Word → Place
+word_place file w = record { file = file; at = w.at }
 
 abbrev pub word_at : ℕ → Word → Named
-word_at file w = record { place = record { file = file; at = w.at }; text = w.text }
+word_at file w = record { place = word_place file w; text = w.text }
 
 -- the words at their places, apart from those that are blank
 abbrev pub words_at : ℕ → List Word → List Named
 words_at file [] = []
-words_at file (w ∷ ws) = if same_text w.text blank then words_at file ws else (word_at file w ∷ words_at file ws)
+words_at file (w ∷ ws) = if bytes_eq w.text blank then words_at file ws else (word_at file w ∷ words_at file ws)
 
 -- A method declares no name of the package, and neither does a function `init`.
 abbrev pub func_words : Option WrittenReceiver → Word → List Word
 func_words (Some r) name = []
-func_words None name = if same_text name.text init then [] else (name ∷ [])
+func_words None name = if bytes_eq name.text init then [] else (name ∷ [])
 
 abbrev pub top_words : WrittenTop → List Word
 top_words (constants c) = c.names
