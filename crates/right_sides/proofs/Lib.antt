@@ -1,0 +1,4 @@
+mod ParameterLemmas
+mod AlikeLemmas
+mod TellingLemmas
+mod ReadingLemmas
