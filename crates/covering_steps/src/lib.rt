@@ -1,0 +1,6 @@
+//! What a type that covers wants of another one at one level.
+#![tactic(auto)]
+
+mod laws;
+
+pub use laws::a_type_covers_level_by_level;
