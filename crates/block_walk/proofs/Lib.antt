@@ -2,3 +2,8 @@ mod KnownLemmas
 mod BoundLemmas
 mod GoingLemmas
 mod ComponentLemmas
+mod StepLemmas
+mod LabelLemmas
+mod FinishLemmas
+mod WeightLemmas
+mod WalkingLemmas

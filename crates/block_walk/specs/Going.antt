@@ -1,5 +1,6 @@
 -- What is written by steps, where a type that was written isn't gone through again.
-use Rattle.std.specs.Prelude.{◌≡◌, ℕ, zero, suc, fold, List, [], ◌∷◌, ◌++◌, Bool, true, not, ◌||◌, cond, is_some, nat_eq}
+use Rattle.std.specs.Prelude.{◌≡◌, ℕ, zero, suc, fold, List, [], ◌∷◌, ◌++◌}
+use Rattle.std.specs.Prelude.{Bool, true, not, ◌||◌, cond, is_some, nat_eq}
 use Rattle.std.specs.List.{AllByRecursion, list_any}
 use Rattle.std.specs.Cmp.Lexicographic.{pointwise}
 use Rattle.go_values.specs.declared.qualified.QName.{QName}
@@ -11,7 +12,7 @@ use Rattle.export_order.specs.Order.{is_among}
 use Rattle.file_layout.specs.Items.{level_items}
 use Rattle.file_layout.specs.Bytes.{path_text}
 use Rattle.file_layout.specs.Walk.{Event, says, tells, ends, is_made, walk}
-use Rattle.file_layout.specs.Places.{Written, is_placed, place_type, happen}
+use Rattle.file_layout.specs.Places.{Written, nothing_written, is_placed, place_type, happen}
 use Rattle.block_writer.specs.Putting.{items_texts}
 use Rattle.block_walk.specs.Steps.{Step, say, tell, meet, finish, type_steps}
 
@@ -21,6 +22,9 @@ pub record Out : Type 0 where
   pub paths : List Text
   pub names : List QName
   pub written : Written
+
+abbrev pub nothing_out : Out
+nothing_out = record { texts = []; paths = []; names = []; written = nothing_written }
 
 -- a text was mentioned
 abbrev pub IsSaid : List Text → Text → Type 0

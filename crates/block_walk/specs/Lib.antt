@@ -1,2 +1,9 @@
 pub mod Steps
 pub mod Going
+pub mod StepsMeant
+pub mod NodeNames
+pub mod Labels
+pub mod Standing
+pub mod Finishing
+pub mod Weights
+pub mod Entering

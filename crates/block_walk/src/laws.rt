@@ -11,6 +11,7 @@ ghost use Rattle.file_layout.specs.Walk.{Event, decl_events, event_texts, event_
 ghost use Rattle.block_walk.specs.Steps.{decl_steps};
 ghost use Rattle.block_walk.specs.Going.{
   Out,
+  nothing_out,
   with_paths,
   with_names,
   event_names,
@@ -27,6 +28,7 @@ pub fn what_was_written_is_skipped()
         → after own offset out (decl_steps basics decl) ≡ with_events own offset out (decl_events basics decl) }
     ensures closed { (own : Text) (offset : Text → ℕ) (basics : Basics) (out : Out) (decl : Decl)
         → IsClosed own offset out → IsClosed own offset (after own offset out (decl_steps basics decl)) }
+    ensures begins { (own : Text) (offset : Text → ℕ) → IsClosed own offset nothing_out }
 {}
 
 /// What the whole walk comes to, part by part: the texts, paths and names in the order of their first mention, and the

@@ -8,3 +8,6 @@ returns-clause-same c = λ own offset basics out decl closed. (items_after own o
 
 pub returns-clause-closed : goal.returns-clause-closed
 returns-clause-closed c = λ own offset basics out decl closed. (items_after own offset no_place (decl_items basics decl) out closed).closed
+
+pub returns-clause-begins : goal.returns-clause-begins
+returns-clause-begins c = λ own offset type placed. absurd cc
