@@ -2,5 +2,8 @@
 #![tactic(auto)]
 
 mod laws;
+mod steps;
+mod unions;
 
 pub use laws::a_type_covers_level_by_level;
+pub use steps::{Step, step_of};
