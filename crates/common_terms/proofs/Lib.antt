@@ -1,0 +1,5 @@
+mod CommonLemmas
+mod FoundLemmas
+mod LoopLemmas
+mod OneTurns
+mod ListsTurns

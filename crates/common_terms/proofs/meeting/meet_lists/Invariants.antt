@@ -1,0 +1,20 @@
+use Rattle.std.proofs.Common.{ℕ, drop}
+use Rattle.environments.specs.Kept.{world, Kept}
+use Rattle.common_terms.specs.Calls.{AllWithin}
+use Rattle.common_terms.proofs.ListsTurns.{OpensAll, AsksAll, Coming}
+use Rattle.common_terms.proofs.meeting.meet_lists.Given as goal
+
+abbrev pub invariant-loop-x : goal.invariant-loop-x
+invariant-loop-x g l =
+    let entries = g.E.Env.entries l.fn.env l.fn.arena.nodes in
+    let names = g.E.Env.names l.fn.env in
+    record {
+      comes : Coming g.C.Covering.covered g.C.Covering.opens g.C.Covering.asks entries names l.fn.arena l.fn.ys l.fn.xs l.fn.found.keys (drop l.x-index l.fn.xs) l.found.keys;
+      kept : Kept (AsksAll g.C.Covering.covered g.C.Covering.opens g.C.Covering.asks entries names l.fn.arena l.fn.ys l.fn.xs l.fn.found.keys)
+          (OpensAll g.C.Covering.covered g.C.Covering.opens g.C.Covering.asks entries names l.fn.arena l.fn.ys l.fn.xs l.fn.found.keys)
+          (world entries names (g.E.Env.packages l.fn.env) (g.E.Env.asked l.fn.env))
+          (world (g.E.Env.entries l.env l.arena.nodes) (g.E.Env.names l.env) (g.E.Env.packages l.env) (g.E.Env.asked l.env))
+          l.fn.arena l.arena;
+      stands : g.E.Env.stands l.env l.arena.nodes;
+      within : (n : ℕ) → AllWithin n l.fn.ys → AllWithin n l.fn.xs → AllWithin n l.fn.found.keys → AllWithin n l.found.keys;
+    }
