@@ -1,3 +1,3 @@
-mod StepLemmas
+pub mod StepLemmas
 mod IdentityLemmas
 mod SwapLemmas
