@@ -7,11 +7,16 @@ use Rattle.wire_bytes.specs.declared.fault.ByteFault.{ByteFault}
 use Rattle.decl_spelling.specs.Sections.{Sections, Basics, HoldsBytes}
 use Rattle.decl_spelling.specs.Declarations.{Read, read_at}
 use Rattle.decl_spelling.proofs.DeclAtLaws.{strings_are, body_is}
-use Rattle.decl_spelling.proofs.Lengths.{block_length, decl_lies, decl_lengths}
+use Rattle.decl_spelling.proofs.Lengths.{block_length, decl_lies}
 use Rattle.decl_spelling.specs.Tables.{Table}
+use Rattle.shared_reading.specs.Memory.{block_of, blocks_in, IsMemory}
+use Rattle.shared_reading.specs.WithMemory.{read_with, or_same}
+use Rattle.shared_reading.specs.Counted.{byte_count, stretch_of, bytes_in, steps_of}
+use Rattle.shared_reading.proofs.SharedReads.{Alone, read_alone, alone_with, stays_memory}
+use Rattle.shared_reading.proofs.TurnCounts.{more_bytes, few_steps}
 use Rattle.decl_reader.specs.Places.{IsStacked, EndsBy, bytes_of}
 use Rattle.decl_reader.specs.Progress.{Counts}
-use Rattle.decl_reader.specs.Wholes.{reached, CountsReached}
+use Rattle.decl_reader.specs.Wholes.{reached, CountsNew}
 
 -- blocks that share no byte have no more bytes than the section
 stacked_bytes : (low limit : ℕ) (es : Table) → low ≤ limit → IsStacked es → AllByRecursion (λ e. low ≤ e.0) es → EndsBy limit es → bytes_of es + low ≤ limit
@@ -27,14 +32,14 @@ from_zero (e ∷ es) = (omega arith, from_zero es)
 own_bytes : (limit : ℕ) (done : Table) → IsStacked done → EndsBy limit done → bytes_of done ≤ limit
 own_bytes limit done stacked ends = omega (arith, stacked_bytes 0 limit done (omega arith) stacked (from_zero done) ends)
 
-pub counts_most : (limit old new : ℕ) (done : Table) → IsStacked done → EndsBy limit done → Counts old [] new done → new ≤ old + limit
-counts_most limit old new done stacked ends counts = omega (arith, own_bytes limit done stacked ends, counts)
+pub counts_most : (limit old new : ℕ) (memory done : Table) → IsStacked done → EndsBy limit done → Counts old memory new done → new ≤ old + limit
+counts_most limit old new memory done stacked ends counts = omega (arith, own_bytes limit done stacked ends, counts)
 
 pub counts_twice : (a b c : ℕ) (xs ys zs : Table) → Counts a xs b ys → Counts b ys c zs → Counts a xs c zs
 counts_twice a b c xs ys zs first second = omega (arith, first, second)
 
-pub counts_first : (a b : ℕ) (xs ys : Table) → xs ≡ [] → Counts a xs b ys → Counts a [] b ys
-counts_first a b xs ys none counts = subst (λ (es : Table). Counts a es b ys) none counts
+pub counts_first : (a b : ℕ) (memory xs ys : Table) → xs ≡ memory → Counts a xs b ys → Counts a memory b ys
+counts_first a b memory xs ys same counts = subst (λ (es : Table). Counts a es b ys) same counts
 
 pub if_either : {T E : Type 0} {Q : Type 0} (r : Result T E) → Q → IfOk r (λ x. Q)
 if_either (Ok x) q = q
@@ -44,25 +49,56 @@ table_bytes : (done : Table) → sum_by block_length done ≡ bytes_of done
 table_bytes [] = refl
 table_bytes (e ∷ es) = sum_by-cons block_length e es ∙ ap (λ n. e.1.end - e.0 + n) (table_bytes es)
 
+new_bytes : (done : Table) → bytes_in done ≡ bytes_of done
+new_bytes [] = refl
+new_bytes (e ∷ es) = sum_by-cons (λ block. byte_count (stretch_of block)) (block_of e) (blocks_in es) ∙ ap (λ n. e.1.end - e.0 + n) (new_bytes es)
+
 -- a declaration that was read whole
-module _ (src : Sections) (basics : Basics) (holds : HoldsBytes src) (offset : ℕ) (x : Read) (is : read_at src basics offset ≡ Ok x) where
+module _ (src : Sections) (basics : Basics) (holds : HoldsBytes src) (memory : Table) (is_memory : IsMemory src memory) (offset : ℕ) (x : Read) (is : read_with src basics memory offset ≡ Ok x) where
+  abbrev by_itself : Alone src basics holds memory offset x
+  by_itself = read_alone src basics holds memory offset x is_memory is
+
   pub lies_in : (src.body_at + offset ≤ x.end) × (x.end ≤ src.body_at + length src.body)
-  lies_in = let lies = decl_lies src basics (strings_are src holds) (body_is src holds) offset x is in (lies.starts, lies.ends)
+  lies_in =
+      let lies = decl_lies src basics (strings_are src holds) (body_is src holds) offset by_itself.alone by_itself.is in
+      (omega (arith, lies.starts, by_itself.end), omega (arith, lies.ends, by_itself.end))
 
-  pub reached_most : reached src offset x ≤ length src.body
-  reached_most = decl_lengths src basics (strings_are src holds) (body_is src holds) offset x is
+  pub steps_most : steps_of src memory offset x ≤ length src.body
+  steps_most = few_steps src basics holds memory is_memory offset x is
 
-  pub reached_is : (done : Table) (old mid new more : ℕ) → x.table ≡ done → Counts old [] mid done → new ≡ mid + more → more ≡ x.end - (src.body_at + offset) → new ≡ old + reached src offset x
-  reached_is done old mid new more table counts added own =
-      let bytes : sum_by block_length x.table ≡ bytes_of done = ap (sum_by block_length) table ∙ table_bytes done in
-      omega (arith, bytes, counts, added, own)
+  more_bytes_in : bytes_in memory ≤ bytes_in x.table
+  more_bytes_in =
+      let wider : IsMemory src x.table = subst (IsMemory src) (ap (or_same memory) is) (stays_memory src basics holds memory is_memory offset) in
+      more_bytes src memory x.table is_memory wider by_itself.has_memory
 
-  pub counts_reached : (old new : ℕ) → new ≡ old + reached src offset x → IfOk (read_at src basics offset) (λ read. new ≡ old + reached src offset read)
-  counts_reached old new counted = subst (λ (r : Result Read ByteFault). IfOk r (λ read. new ≡ old + reached src offset read)) (sym is) counted
+  pub steps_are : (done : Table) (old mid new more : ℕ) → x.table ≡ done → Counts old memory mid done → new ≡ mid + more → more ≡ x.end - (src.body_at + offset) → new ≡ old + steps_of src memory offset x
+  steps_are done old mid new more table counts added own =
+      let bytes : bytes_in x.table ≡ bytes_of done = ap bytes_in table ∙ new_bytes done in
+      omega (arith, bytes, new_bytes memory, more_bytes_in, counts, added, own)
+
+  pub counts_new : (old new : ℕ) → new ≡ old + steps_of src memory offset x → IfOk (read_with src basics memory offset) (λ read. new ≡ old + steps_of src memory offset read)
+  counts_new old new counted = subst (λ (r : Result Read ByteFault). IfOk r (λ read. new ≡ old + steps_of src memory offset read)) (sym is) counted
+
+-- ---- with nothing remembered
+
+module _ (src : Sections) (basics : Basics) (holds : HoldsBytes src) (offset : ℕ) where
+  pub alone : read_with src basics [] offset ≡ read_at src basics offset
+  alone = alone_with src basics holds offset (read_at src basics offset) refl
+
+  steps_alone : (x : Read) → steps_of src [] offset x ≡ reached src offset x
+  steps_alone x = omega (arith, new_bytes x.table, table_bytes x.table)
+
+  pub reached_alone : (before after : ℕ) → IfOk (read_with src basics [] offset) (λ x. after ≡ before + steps_of src [] offset x) → IfOk (read_at src basics offset) (λ x. after ≡ before + reached src offset x)
+  reached_alone before after counted =
+      by (read_at src basics offset) (subst (λ (r : Result Read ByteFault). IfOk r (λ x. after ≡ before + steps_of src [] offset x)) alone counted)
+    where
+      by : (r : Result Read ByteFault) → IfOk r (λ x. after ≡ before + steps_of src [] offset x) → IfOk r (λ x. after ≡ before + reached src offset x)
+      by (Ok x) counts = counts ∙ ap (λ (n : ℕ). before + n) (steps_alone x)
+      by (Err f) counts = tt
 
 -- the same of the counter as it is called elsewhere
-pub counted_as : {X E : Type 0} (src : Sections) (basics : Basics) (offset : ℕ) (r : Result X E) (before after last : ℕ) → CountsReached src basics offset r before after → after ≡ last → CountsReached src basics offset r before last
-counted_as {X} {E} src basics offset r before after last counted same = subst (λ (n : ℕ). CountsReached src basics offset r before n) same counted
+pub counted_as : {X E : Type 0} (src : Sections) (basics : Basics) (memory : Table) (offset : ℕ) (r : Result X E) (before after last : ℕ) → CountsNew src basics memory offset r before after → after ≡ last → CountsNew src basics memory offset r before last
+counted_as {X} {E} src basics memory offset r before after last counted same = subst (λ (n : ℕ). CountsNew src basics memory offset r before n) same counted
 
 pub at_most_as : (after last most : ℕ) → after ≤ most → after ≡ last → last ≤ most
 at_most_as after last most le same = omega (arith, le, same)

@@ -9,35 +9,35 @@ use Rattle.std.specs.declared.cmp.Ordering.{Ordering}
 use Rattle.std.specs.declared.cmp.Ordering.TheVariants.{Less, Equal, Greater}
 use Rattle.std.specs.Cmp.{nat_cmp_is}
 use Rattle.std.proofs.lemmas.Bool.{cases_lt}
-use Rattle.decl_spelling.specs.Tables.{Finished, Table, at, with_block}
+use Rattle.decl_spelling.specs.Tables.{Finished, Table, with_block}
 use Rattle.decl_reader.specs.Places.{EndsBy, HasRoom, IsStacked, bytes_of}
 
 abbrev pub found : {F : Type 0} → List (ℕ × F) → ℕ → Option F
 found es offset = lookup (λ start. is_eq (nat_cmp offset start)) es
 
 -- what the code keeps, seen as a finished descriptor
-module _ {F : Type 0} (seen : F → Finished) where
-  abbrev seen_entry : ℕ × F → ℕ × Finished
+module _ {F G : Type 0} (seen : F → G) where
+  abbrev seen_entry : ℕ × F → ℕ × G
   seen_entry e = (e.0, seen e.1)
 
-  by_test : (test : Bool) (f : F) (b : Option F) (c : Option Finished) → option_map seen b ≡ c → option_map seen (cond test (Some f) b) ≡ cond test (Some (seen f)) c
+  by_test : (test : Bool) (f : F) (b : Option F) (c : Option G) → option_map seen b ≡ c → option_map seen (cond test (Some f) b) ≡ cond test (Some (seen f)) c
   by_test true f b c same = refl
   by_test false f b c same = same
 
-  pub found_at : (es : List (ℕ × F)) (offset : ℕ) → option_map seen (found es offset) ≡ at (map seen_entry es) offset
+  pub found_at : (es : List (ℕ × F)) (offset : ℕ) → option_map seen (found es offset) ≡ found (map seen_entry es) offset
   found_at [] offset = refl
-  found_at (e ∷ es) offset = by_test (is_eq (nat_cmp offset e.0)) e.1 (found es offset) (at (map seen_entry es) offset) (found_at es offset)
+  found_at (e ∷ es) offset = by_test (is_eq (nat_cmp offset e.0)) e.1 (found es offset) (found (map seen_entry es) offset) (found_at es offset)
 
-  by_order : (r : Ordering) (offset : ℕ) (f : F) (e : ℕ × F) (es rest : List (ℕ × F)) (more : Table) → map seen_entry rest ≡ more
+  by_order : (r : Ordering) (offset : ℕ) (f : F) (e : ℕ × F) (es rest : List (ℕ × F)) (more : List (ℕ × G)) → map seen_entry rest ≡ more
       → map seen_entry (match_ordering r ((offset, f) ∷ e ∷ es) ((e.0, f) ∷ es) (e ∷ rest))
       ≡ match_ordering r ((offset, seen f) ∷ (e.0, seen e.1) ∷ map seen_entry es) ((e.0, seen f) ∷ map seen_entry es) ((e.0, seen e.1) ∷ more)
   by_order Less offset f e es rest more same = refl
   by_order Equal offset f e es rest more same = refl
   by_order Greater offset f e es rest more same = ap (λ xs. (e.0, seen e.1) ∷ xs) same
 
-  pub added_table : (es : List (ℕ × F)) (offset : ℕ) (f : F) → map seen_entry (insert_entry nat_cmp es offset f) ≡ with_block (map seen_entry es) offset (seen f)
+  pub added_table : (es : List (ℕ × F)) (offset : ℕ) (f : F) → map seen_entry (insert_entry nat_cmp es offset f) ≡ insert_entry nat_cmp (map seen_entry es) offset (seen f)
   added_table [] offset f = refl
-  added_table (e ∷ es) offset f = by_order (nat_cmp offset e.0) offset f e es (insert_entry nat_cmp es offset f) (with_block (map seen_entry es) offset (seen f)) (added_table es offset f)
+  added_table (e ∷ es) offset f = by_order (nat_cmp offset e.0) offset f e es (insert_entry nat_cmp es offset f) (insert_entry nat_cmp (map seen_entry es) offset (seen f)) (added_table es offset f)
 
 -- what holds of each is so of what is found
 module _ {F : Type 0} (P : F → Type 0) where

@@ -1,5 +1,5 @@
 -- The list of the descriptors that were read whole, and the table that it makes.
-use Rattle.std.proofs.Common.{◌≡◌, ℕ, zero, suc, ◌<◌, List, [], ◌∷◌, ◌++◌, length, Some, refl, sym, ap, subst, ◌∙◌, arith}
+use Rattle.std.proofs.Common.{◌≡◌, ℕ, zero, suc, ◌<◌, List, [], ◌∷◌, ◌++◌, length, Option, Some, None, refl, sym, ap, subst, ◌∙◌, arith}
 use Rattle.std.specs.Prelude.{slice_index_or}
 use Rattle.std.specs.List.{AllByRecursion}
 use Rattle.type_terms.specs.Trees.{Tree, tree_of}
@@ -9,7 +9,7 @@ use Rattle.decl_spelling.specs.KnownTypes.{Kept}
 use Rattle.decl_spelling.proofs.TableLaws.{found_new}
 use Rattle.decl_reader.specs.declared.finished.Descriptor.{Descriptor}
 use Rattle.decl_reader.specs.Shapes.{flat_shape}
-use Rattle.decl_reader.specs.Finished.{type_of, joined, known_after, known_of, types_after, types_of, nth, type_at, MayJoin, AreInTurn}
+use Rattle.decl_reader.specs.Finished.{type_of, joined, known_after, types_after, nth, type_at, MayJoin, AreInTurn}
 use Rattle.decl_reader.specs.Places.{PlaceEntry, placed_of, AllPlaced}
 use Rattle.decl_reader.proofs.MeantLemmas.{tree_is}
 use Rattle.decl_reader.proofs.ClosedLemmas.{kept_new}
@@ -42,21 +42,21 @@ nth_last : (ts : List Tree) (t : Tree) → nth (ts ++ t ∷ []) (length ts) ≡ 
 nth_last [] t = refl
 nth_last (x ∷ ts) t = nth_last ts t
 
-module _ (version : ℕ) (ds : List Descriptor) (d : Descriptor) where
+module _ (version : ℕ) (memory : Table) (ds : List Descriptor) (d : Descriptor) where
   abbrev more : List Descriptor
   more = ds ++ d ∷ []
 
-  pub type_stays : (index : ℕ) → index < length ds → type_at version more index ≡ type_at version ds index
+  pub type_stays : (index : ℕ) → index < length ds → type_at version memory more index ≡ type_at version memory ds index
   type_stays index less =
-      ap (λ (ts : List Tree). nth ts index) (types_last version [] ds d) ∙ nth_left (types_of version ds) (type_of version (known_of version ds) d) index (omega (arith, less, many_types version [] ds))
+      ap (λ (ts : List Tree). nth ts index) (types_last version memory ds d) ∙ nth_left (types_after version memory ds) (type_of version (known_after version memory ds) d) index (omega (arith, less, many_types version memory ds))
 
-  pub type_of_last : type_at version more (length ds) ≡ type_of version (known_of version ds) d
+  pub type_of_last : type_at version memory more (length ds) ≡ type_of version (known_after version memory ds) d
   type_of_last =
-      ap (λ (ts : List Tree). nth ts (length ds)) (types_last version [] ds d)
-      ∙ ap (λ (n : ℕ). nth (types_of version ds ++ type_of version (known_of version ds) d ∷ []) n) (sym (many_types version [] ds))
-      ∙ nth_last (types_of version ds) (type_of version (known_of version ds) d)
+      ap (λ (ts : List Tree). nth ts (length ds)) (types_last version memory ds d)
+      ∙ ap (λ (n : ℕ). nth (types_after version memory ds ++ type_of version (known_after version memory ds) d ∷ []) n) (sym (many_types version memory ds))
+      ∙ nth_last (types_after version memory ds) (type_of version (known_after version memory ds) d)
 
-  pub places_stay : (es : List PlaceEntry) → AllPlaced (length ds) es → placed_of (type_at version more) es ≡ placed_of (type_at version ds) es
+  pub places_stay : (es : List PlaceEntry) → AllPlaced (length ds) es → placed_of (type_at version memory more) es ≡ placed_of (type_at version memory ds) es
   places_stay [] inside = refl
   places_stay (e ∷ es) inside =
       let head = type_stays e.1.index inside.0 in
@@ -83,25 +83,34 @@ module _ (version : ℕ) where
   at_index done (d ∷ ds) zero x turn less = record { before = done; type_is = refl; may = turn.0; kept = kept_after done (d ∷ ds) turn }
   at_index done (d ∷ ds) (suc index) x turn less = at_index (joined version done d) ds index x turn.1 (omega (arith, less))
 
-  pub is_at : (ds : List Descriptor) (index : ℕ) (d : Descriptor) → d ≡ slice_index_or ds index d → AreInTurn version [] ds → index < length ds → IsAt version (known_of version ds) d (type_at version ds index)
-  is_at ds index d is turn less = subst (λ (x : Descriptor). IsAt version (known_of version ds) x (type_at version ds index)) (sym is) (at_index [] ds index d turn less)
+  pub is_at : (memory : Table) (ds : List Descriptor) (index : ℕ) (d : Descriptor) → d ≡ slice_index_or ds index d → AreInTurn version memory ds → index < length ds → IsAt version (known_after version memory ds) d (type_at version memory ds index)
+  is_at memory ds index d is turn less = subst (λ (x : Descriptor). IsAt version (known_after version memory ds) x (type_at version memory ds index)) (sym is) (at_index memory ds index d turn less)
 
   -- the type is that of its parts, with some types in them
-  pub spelled_at : (ds : List Descriptor) (index : ℕ) (d : Descriptor) → d ≡ slice_index_or ds index d → AreInTurn version [] ds → index < length ds
-      → (types : ℕ → Tree) × (type_at version ds index ≡ tree_of (retype types (flat_shape d.flat)))
-  spelled_at ds index d is turn less =
-      let there = is_at ds index d is turn less in
+  pub spelled_at : (memory : Table) (ds : List Descriptor) (index : ℕ) (d : Descriptor) → d ≡ slice_index_or ds index d → AreInTurn version memory ds → index < length ds
+      → (types : ℕ → Tree) × (type_at version memory ds index ≡ tree_of (retype types (flat_shape d.flat)))
+  spelled_at memory ds index d is turn less =
+      let there = is_at memory ds index d is turn less in
       (type_named version there.before, there.type_is ∙ tree_is version there.before d.flat)
 
--- ---- each type stands in the table
+-- ---- each type stands in the table, and where nothing was remembered
 
-unfoldable pub Stands : Table → Tree → Type 0
-Stands done t = (o : ℕ) × (f : Finished) × (at done o ≡ Some f) × (f.tree ≡ t)
+unfoldable pub Stands : Table → Table → Tree → Type 0
+Stands memory done t = (o : ℕ) × (f : Finished) × (at done o ≡ Some f) × (f.tree ≡ t) × (at memory o ≡ None)
 
-module _ (version : ℕ) where
-  pub each_stands : (done : Table) (ds : List Descriptor) → AreInTurn version done ds → AllByRecursion (Stands (known_after version done ds)) (types_after version done ds)
+module _ (version : ℕ) (memory : Table) where
+  -- where nothing is found later, nothing was found before
+  none_before : (done : Table) (o : ℕ) → Kept memory done → at done o ≡ None → at memory o ≡ None
+  none_before done o kept none = by (at memory o) refl
+    where
+      by : (a : Option Finished) → at memory o ≡ a → at memory o ≡ None
+      by (Some f) is = let no = kept o f is in absurd cc
+      by None is = is
+
+  pub each_stands : (done : Table) (ds : List Descriptor) → Kept memory done → AreInTurn version done ds → AllByRecursion (Stands memory (known_after version done ds)) (types_after version done ds)
   unfolding Stands
-  each_stands done [] turn = tt
-  each_stands done (d ∷ ds) turn =
+  each_stands done [] kept turn = tt
+  each_stands done (d ∷ ds) kept turn =
       let f : Finished = record { end = d.end; tree = type_of version done d } in
-      ((d.start, f, kept_after version (joined version done d) ds turn.1 d.start f (found_new done d.start f), refl), each_stands (joined version done d) ds turn.1)
+      let later : Kept memory (joined version done d) = λ o g found. kept_new done d.start f turn.0.new o g (kept o g found) in
+      ((d.start, f, kept_after version (joined version done d) ds turn.1 d.start f (found_new done d.start f), refl, none_before done d.start kept turn.0.new), each_stands (joined version done d) ds later turn.1)

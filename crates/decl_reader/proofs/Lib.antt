@@ -3,6 +3,7 @@ pub mod PassTimesLemmas
 pub mod HeadLemmas
 pub mod StackedLemmas
 pub mod EntryLemmas
+pub mod TableLemmas
 pub mod WantLemmas
 pub mod ResumeLemmas
 pub mod BegunLemmas
@@ -21,3 +22,5 @@ pub mod ReachedLemmas
 pub mod CountsLemmas
 pub mod ProperDeclLemmas
 pub mod ProgressLemmas
+pub mod KeptLemmas
+pub mod KnownLemmas

@@ -24,12 +24,16 @@ use Rattle.decl_spelling.specs.Constants.{basic_type, spelling_at, value_at}
 use Rattle.decl_spelling.specs.Declarations.{Head, Read, whole, of_type, of_constant, read, head_at, receiver_at, has_methods, resolved, methods_of, after_type, fault_alone, after_head, read_at}
 use Rattle.decl_spelling.specs.Leaving.{LeavesBlock, if_well, left_by_type, left_by_types, left_by_block, left_at, left_by_named, left_by_part, left_by_methods, left_after_head, left_by_decl, types_read}
 use Rattle.decl_spelling.proofs.MapLemmas.{all_weaker}
-use Rattle.decl_spelling.proofs.TableLaws.{first_has, later_has, found_new, found_still, some_is}
+use Rattle.decl_spelling.proofs.TableLaws.{first_has, later_has, found_new, found_still, some_is, block, block_found, found_block}
 use Rattle.decl_spelling.proofs.TypeTakes.{named_ok}
 use Rattle.decl_spelling.proofs.LeavingDecls.{left_stands}
+use Rattle.shared_reading.specs.Memory.{IsMemory, Joins}
+use Rattle.shared_reading.specs.WithMemory.{read_with}
+use Rattle.shared_reading.proofs.MemoryLemmas.{in_order_rises}
+use Rattle.shared_reading.proofs.SharedReads.{Alone, read_alone, joined}
 use Rattle.block_reader.specs.declared.declarations.DeclParts.{DeclParts}
 use Rattle.decl_reader.specs.declared.finished.Descriptor.{Descriptor}
-use Rattle.decl_reader.specs.Finished.{known_of, types_of}
+use Rattle.decl_reader.specs.Finished.{known_after, types_after}
 use Rattle.decl_reader.specs.Meant.{decl_by}
 use Rattle.decl_reader.specs.Wholes.{IsRead}
 use Rattle.decl_reader.proofs.FinishedLemmas.{Stands, each_stands}
@@ -175,29 +179,43 @@ all_in : (types part : List Tree) → ((t : Tree) → Contains part t → Contai
 all_in types [] has = tt
 all_in types (t ∷ ts) has = (stands_itself types t (has t (first_has t ts)), all_in types ts (λ u later. has u (later_has t u ts later)))
 
-module _ (src : Sections) (basics : Basics) (holds : HoldsBytes src) (offset : ℕ) (within : offset ≤ length src.body) where
+module _ (src : Sections) (basics : Basics) (holds : HoldsBytes src) (memory : Table) (is_memory : IsMemory src memory) (offset : ℕ) (within : offset ≤ length src.body) where
   abbrev types : List Tree
   types = types_read src basics offset
 
   left_in : (t : Tree) → Contains (left_by_decl src offset) t → StandsIn types t
   left_in t has = All-contains (StandsIn types) (left_by_decl src offset) t (All-from_recursion (StandsIn types) (left_by_decl src offset) (left_stands src basics holds offset within)) has
 
-  from_table : (x : Read) → read_at src basics offset ≡ Ok x → (t : Tree) → Stands x.table t → StandsIn types t
+  -- what is found where nothing was remembered is found where the declaration is read by itself
+  found_alone : (x : Read) → (a : Alone src basics holds memory offset x) → Joins memory (a.alone).table x.table → (o : ℕ) (f : Finished) → at x.table o ≡ Some f → at memory o ≡ None → at (a.alone).table o ≡ Some f
+  found_alone x a joins o f found none =
+      elim (joins.only (block o f) (block_found x.table o f found)) [
+        | inl has ↦ absurd (let there = found_block memory 0 (block o f) (in_order_rises memory is_memory.in_order) has in cc)
+        | inr has ↦ found_block (a.alone).table 0 (block o f) a.whole_alone.added.fine.rising has
+      ]
+
+  from_table : (x : Read) → read_with src basics memory offset ≡ Ok x → (t : Tree) → Stands memory x.table t → StandsIn types t
   unfolding Stands
-  from_table x e t (o, f, found, same) = subst (StandsIn types) same (by (decl_brought src offset basics x e o f found))
+  from_table x e t (o, f, found, same, none) =
+      let a = read_alone src basics holds memory offset x is_memory e in
+      let its_own = found_alone x a (joined src basics holds memory offset x is_memory e a) o f found none in
+      subst (StandsIn types) same (by (decl_brought src offset basics a.alone a.is o f its_own))
     where
       by : (at [] o ≡ Some f) ⊎ Contains (left_by_decl src offset) f.tree → StandsIn types f.tree
       by (inl there) = absurd (let no = there in cc)
       by (inr has) = left_in f.tree has
 
   -- what a declaration reaches stands in its types
-  pub reached_covers : (parts : DeclParts) (ds : List Descriptor) → IsRead src basics offset parts ds → Covers types (types_of src.version ds ++ form_types (decl_by src.version (known_of src.version ds) parts))
+  pub reached_covers : (parts : DeclParts) (ds : List Descriptor) → IsRead src basics memory offset parts ds
+      → Covers types (types_after src.version memory ds ++ form_types (decl_by src.version (known_after src.version memory ds) parts))
   reached_covers parts ds read_so =
-      let own : List Tree = form_types (decl_by src.version (known_of src.version ds) parts) in
+      let own : List Tree = form_types (decl_by src.version (known_after src.version memory ds) parts) in
+      let new : List Tree = types_after src.version memory ds in
       let table = sym read_so.table in
-      let each : AllByRecursion (StandsIn types) (types_of src.version ds)
-      = all_weaker (Stands (known_of src.version ds)) (StandsIn types) (λ t stands. from_table read_so.read read_so.is t (subst (λ (k : Table). Stands k t) table stands)) (types_of src.version ds) (each_stands src.version [] ds read_so.turn) in
-      let same = types_are src basics offset parts ds read_so in
+      let each : AllByRecursion (StandsIn types) new
+      = all_weaker (Stands memory (known_after src.version memory ds)) (StandsIn types) (λ t stands. from_table read_so.read read_so.is t (subst (λ (k : Table). Stands memory k t) table stands)) new
+      (each_stands src.version memory memory ds (λ o f found. found) read_so.turn) in
+      let same = types_are src basics holds memory is_memory offset parts ds read_so in
       let itself : AllByRecursion (StandsIn types) own = all_in types own (λ t has. subst (λ (ts : List Tree). Contains ts t) (sym same) has) in
-      let all = all_append (StandsIn types) (types_of src.version ds) own each itself in
-      covers_each types (types_of src.version ds ++ own) (λ t has. All-contains (StandsIn types) (types_of src.version ds ++ own) t (All-from_recursion (StandsIn types) (types_of src.version ds ++ own) all) has)
+      let all = all_append (StandsIn types) new own each itself in
+      covers_each types (new ++ own) (λ t has. All-contains (StandsIn types) (new ++ own) t (All-from_recursion (StandsIn types) (new ++ own) all) has)

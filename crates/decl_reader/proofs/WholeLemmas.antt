@@ -36,7 +36,10 @@ use Rattle.decl_reader.specs.declared.fault.DeclFault.{DeclFault}
 use Rattle.decl_reader.specs.declared.fault.DeclFault.TheVariants.{Bytes, Nodes, OutOfMemory}
 use Rattle.decl_reader.specs.declared.finished.Descriptor.{Descriptor}
 use Rattle.decl_reader.specs.Faults.{IsNoFault, of_read}
-use Rattle.decl_reader.specs.Finished.{known_of}
+use Rattle.shared_reading.specs.Memory.{IsMemory}
+use Rattle.shared_reading.specs.WithMemory.{read_with}
+use Rattle.shared_reading.proofs.SharedReads.{read_alone}
+use Rattle.decl_reader.specs.Finished.{known_after}
 use Rattle.decl_reader.specs.Meant.{decl_by}
 use Rattle.decl_reader.specs.Opens.{reads, Resolves}
 use Rattle.decl_reader.specs.Wholes.{FaultIs, IfFault, IsRead, ReadsDecl, all_known, methods_by, value_by}
@@ -93,50 +96,53 @@ value_then src basics pos type at a done =
 
 -- ---- the whole
 
-module _ (src : Sections) (basics : Basics) (offset : ℕ) where
+module _ (src : Sections) (basics : Basics) (memory : Table) (offset : ℕ) where
   -- the two parts of a declaration
   abbrev pub first_part : Result ((Head × Ahead) × Table) ByteFault
-  first_part = resolved src offset (head_at src (start (window src offset (length src.body)))) []
+  first_part = resolved src offset (head_at src (start (window src offset (length src.body)))) memory
 
-  pub first_faults : (e : ReadFault) → FaultIs e first_part → FaultIs e (read_at src basics offset)
-  unfolding read_at
+  pub first_faults : (e : ReadFault) → FaultIs e first_part → FaultIs e (read_with src basics memory offset)
+  unfolding read_with
   first_faults e is = then_fault first_part (λ head. after_head src basics offset (head.0).0 (head.0).1 head.1) e is
 
-  both_parts : (head : Head) (a : Ahead) (known : Table) → first_part ≡ Ok ((head, a), known) → after_head src basics offset head a known ≡ read_at src basics offset
-  unfolding read_at
+  both_parts : (head : Head) (a : Ahead) (known : Table) → first_part ≡ Ok ((head, a), known) → after_head src basics offset head a known ≡ read_with src basics memory offset
+  unfolding read_with
   both_parts head a known is = sym (ap (λ (r : Result ((Head × Ahead) × Table) ByteFault). r >>= λ x. after_head src basics offset (x.0).0 (x.0).1 x.1) is)
 
-  pub whole_read : (head : Head) (a : Ahead) (known : Table) (x : Read) → first_part ≡ Ok ((head, a), known) → after_head src basics offset head a known ≡ Ok x → read_at src basics offset ≡ Ok x
+  pub whole_read : (head : Head) (a : Ahead) (known : Table) (x : Read) → first_part ≡ Ok ((head, a), known) → after_head src basics offset head a known ≡ Ok x → read_with src basics memory offset ≡ Ok x
   whole_read head a known x is rest = sym (both_parts head a known is) ∙ rest
 
-  pub rest_faults : (head : Head) (a : Ahead) (known : Table) (e : ReadFault) → first_part ≡ Ok ((head, a), known) → FaultIs e (after_head src basics offset head a known) → FaultIs e (read_at src basics offset)
-  rest_faults head a known e is rest = fault_as (after_head src basics offset head a known) (read_at src basics offset) e (both_parts head a known is) rest
+  pub rest_faults : (head : Head) (a : Ahead) (known : Table) (e : ReadFault) → first_part ≡ Ok ((head, a), known) → FaultIs e (after_head src basics offset head a known) → FaultIs e (read_with src basics memory offset)
+  rest_faults head a known e is rest = fault_as (after_head src basics offset head a known) (read_with src basics memory offset) e (both_parts head a known is) rest
 
   -- where the head of a declaration is read from
-  pub first_is : (a : Ahead) (done : Table) (to : ℕ) → a ≡ start (window src offset to) → length src.body ≡ to → done ≡ [] → resolved src offset (head_at src a) done ≡ first_part
-  first_is a done to at size none =
+  pub first_is : (a : Ahead) (done : Table) (to : ℕ) → a ≡ start (window src offset to) → length src.body ≡ to → done ≡ memory → resolved src offset (head_at src a) done ≡ first_part
+  first_is a done to at size same =
       ap (λ (b : Ahead). resolved src offset (head_at src b) done) (at ∙ ap (λ (n : ℕ). start (window src offset n)) (sym size))
-      ∙ ap (λ (t : Table). resolved src offset (head_at src (start (window src offset (length src.body)))) t) none
+      ∙ ap (λ (t : Table). resolved src offset (head_at src (start (window src offset (length src.body)))) t) same
 
--- a fault of what is read is one of the declaration, and what was read is the declaration
+-- a fault of what is read is one of the declaration
 module _ (src : Sections) (basics : Basics) (offset : ℕ) where
   pub fault_kept : (nodes : List Node) (r : Result DeclNode DeclFault) (e : ReadFault) → r ≡ Err (of_read e) → FaultIs e (read_at src basics offset) → ReadsDecl r nodes (decl_at src basics offset)
   fault_kept nodes r (reading.Bytes f) is read = subst (λ (x : Result DeclNode DeclFault). ReadsDecl x nodes (decl_at src basics offset)) (sym is) (ap (λ (x : Result Read ByteFault). x >>= λ y. Ok (decl_read src y)) read)
   fault_kept nodes r reading.OutOfMemory is read = subst (λ (x : Result DeclNode DeclFault). ReadsDecl x nodes (decl_at src basics offset)) (sym is) tt
 
-  decl_is : (parts : DeclParts) (ds : List Descriptor) → IsRead src basics offset parts ds → decl_at src basics offset ≡ Ok (decl_by src.version (known_of src.version ds) parts)
+-- what was read is the declaration
+module _ (src : Sections) (basics : Basics) (holds : HoldsBytes src) (memory : Table) (is_memory : IsMemory src memory) (offset : ℕ) where
+  pub decl_is : (parts : DeclParts) (ds : List Descriptor) → IsRead src basics memory offset parts ds → decl_at src basics offset ≡ Ok (decl_by src.version (known_after src.version memory ds) parts)
   decl_is parts ds read =
       let form = read.form in
       let table = read.table in
-      ap (λ (x : Result Read ByteFault). x >>= λ y. Ok (decl_read src y)) read.is
+      let by_itself = read_alone src basics holds memory offset read.read is_memory read.is in
+      ap (λ (x : Result Read ByteFault). x >>= λ y. Ok (decl_read src y)) by_itself.is ∙ ap (λ (d : Decl). Ok d) by_itself.decl
       ∙ (λ i. Ok (form_meant (form_map (λ pos. pos) (λ text. text) (type_spelled src.version (table i)) (form i))))
 
-  pub types_are : (parts : DeclParts) (ds : List Descriptor) → IsRead src basics offset parts ds → types_read src basics offset ≡ form_types (decl_by src.version (known_of src.version ds) parts)
+  pub types_are : (parts : DeclParts) (ds : List Descriptor) → IsRead src basics memory offset parts ds → types_read src basics offset ≡ form_types (decl_by src.version (known_after src.version memory ds) parts)
   types_are parts ds read = ap (types_by src offset) (decl_is parts ds read)
 
   -- what was read, with its types as nodes
-  pub kept_is : (parts : DeclParts) (ds : List Descriptor) (nodes : List Node) (r : Result DeclNode DeclFault) → IsRead src basics offset parts ds
-      → IfOk r (λ node. decl_of nodes node ≡ decl_by src.version (known_of src.version ds) parts) → IfErr r IsNoFault → ReadsDecl r nodes (decl_at src basics offset)
+  pub kept_is : (parts : DeclParts) (ds : List Descriptor) (nodes : List Node) (r : Result DeclNode DeclFault) → IsRead src basics memory offset parts ds
+      → IfOk r (λ node. decl_of nodes node ≡ decl_by src.version (known_after src.version memory ds) parts) → IfErr r IsNoFault → ReadsDecl r nodes (decl_at src basics offset)
   kept_is parts ds nodes (Ok node) read means none = decl_is parts ds read ∙ ap (λ (d : Decl). Ok d) (sym means)
   kept_is parts ds nodes (Err (Bytes f)) read means none = absurd none
   kept_is parts ds nodes (Err Nodes) read means none = tt

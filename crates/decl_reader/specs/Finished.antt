@@ -16,21 +16,15 @@ type_of version done d = tree_spelled version done (flat_spelled d.flat)
 abbrev pub joined : ℕ → Table → Descriptor → Table
 joined version done d = with_block done d.start (record { end = d.end; tree = type_of version done d })
 
+-- what is known by them, behind what was known before
 abbrev pub known_after : ℕ → Table → List Descriptor → Table
 known_after version done [] = done
 known_after version done (d ∷ ds) = known_after version (joined version done d) ds
 
--- what is known by them
-abbrev pub known_of : ℕ → List Descriptor → Table
-known_of version ds = known_after version [] ds
-
+-- the types that they spell
 abbrev pub types_after : ℕ → Table → List Descriptor → List Tree
 types_after version done [] = []
 types_after version done (d ∷ ds) = type_of version done d ∷ types_after version (joined version done d) ds
-
--- the types that they spell
-abbrev pub types_of : ℕ → List Descriptor → List Tree
-types_of version ds = types_after version [] ds
 
 -- the type at an index; where there is none it is some type
 abbrev pub nth : List Tree → ℕ → Tree
@@ -38,8 +32,8 @@ nth [] index = predeclared bool_type
 nth (t ∷ ts) zero = t
 nth (t ∷ ts) (suc index) = nth ts index
 
-abbrev pub type_at : ℕ → List Descriptor → ℕ → Tree
-type_at version ds index = nth (types_of version ds) index
+abbrev pub type_at : ℕ → Table → List Descriptor → ℕ → Tree
+type_at version done ds index = nth (types_after version done ds) index
 
 -- One may join those before it: none of them starts where it does, and an instance has the name of a generic type, and
 -- an argument.

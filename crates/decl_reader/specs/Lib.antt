@@ -3,11 +3,13 @@ pub mod TypeOffs
 pub mod Shapes
 pub mod Forms
 pub mod Leads
+pub mod Places
 pub mod Blocks
 pub mod Meant
 pub mod Finished
-pub mod Places
 pub mod Frames
 pub mod Opens
 pub mod Progress
+pub mod Kept
+pub mod OpenReaders
 pub mod Wholes

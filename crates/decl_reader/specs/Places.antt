@@ -3,7 +3,8 @@
 use Rattle.std.specs.Prelude.{◌≡◌, ℕ, ◌+◌, ◌-◌, ◌<◌, ◌≤◌, ◌⊎◌, List, [], ◌∷◌, ◌++◌, map, Bool, false, nat_lt, Option}
 use Rattle.std.specs.Prelude.{Some, None}
 use Rattle.std.specs.List.{AllByRecursion}
-use Rattle.std.specs.Ordering.{nat_cmp}
+use Rattle.std.specs.Map.{lookup}
+use Rattle.std.specs.Ordering.{nat_cmp, is_eq}
 use Rattle.std.specs.declared.ops.Bound.TheVariants.{Included, Unbounded}
 use Rattle.std.specs.BTreeMap.{insert_entry}
 use Rattle.std.specs.BTreeMap.Range.{entries_between}
@@ -27,6 +28,10 @@ placed_of types entries = map (placed_entry types) entries
 -- with one more
 abbrev pub with_place : List PlaceEntry → ℕ → Place → List PlaceEntry
 with_place entries offset place = insert_entry nat_cmp entries offset place
+
+-- the place at an offset
+abbrev pub place_at : List PlaceEntry → ℕ → Option Place
+place_at entries offset = lookup (λ start. is_eq (nat_cmp offset start)) entries
 
 -- their indices are below so many
 abbrev pub AllPlaced : ℕ → List PlaceEntry → Type 0

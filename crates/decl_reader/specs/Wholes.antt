@@ -1,5 +1,6 @@
 -- What the calls that read a declaration answer.
-use Rattle.std.specs.Prelude.{◌≡◌, ℕ, ◌+◌, ◌-◌, ◌++◌, List, [], Bool, true, false, Result, Ok, Err, IfOk, Option}
+use Rattle.std.specs.Prelude.{◌≡◌, ℕ, ◌+◌, ◌-◌, ◌++◌, List, [], length, Bool, true, false, Result, Ok, Err, IfOk}
+use Rattle.std.specs.Prelude.{Option}
 use Rattle.std.specs.List.{sum_by}
 use Rattle.code_tables.specs.declared.predeclared.Basic.{Basic}
 use Rattle.wire_bytes.specs.declared.fault.ByteFault.{ByteFault}
@@ -25,7 +26,10 @@ use Rattle.decl_reader.specs.declared.fault.DeclFault.{DeclFault}
 use Rattle.decl_reader.specs.declared.fault.DeclFault.TheVariants.{Bytes, Nodes, OutOfMemory}
 use Rattle.decl_reader.specs.declared.finished.Descriptor.{Descriptor}
 use Rattle.decl_reader.specs.declared.finished.Spelled.{Spelled}
-use Rattle.decl_reader.specs.Finished.{known_of, types_of, AreInTurn}
+use Rattle.shared_reading.specs.WithMemory.{read_with}
+use Rattle.shared_reading.specs.Counted.{steps_of}
+use Rattle.decl_reader.specs.Finished.{known_after, types_after, AreInTurn}
+use Rattle.decl_reader.specs.Places.{EndsBy, IsStacked}
 use Rattle.decl_reader.specs.Meant.{decl_by}
 use Rattle.block_reader.specs.Spelled.{const_spelled}
 use Rattle.block_reader.specs.Parts.{form_spelled, value_spelled}
@@ -83,28 +87,38 @@ abbrev pub CountsReached : {X E : Type 0} → Sections → Basics → ℕ → Re
 CountsReached src basics offset result before after =
     IfOk result (λ _. IfOk (read_at src basics offset) (λ x. after ≡ before + reached src offset x))
 
--- A declaration with types as numbers and the descriptors that it reaches are what reading gives.
-pub record IsRead (src : Sections) (basics : Basics) (offset : ℕ) (parts : DeclParts) (ds : List Descriptor) : Type 0 where
+-- where a declaration is read with a memory, the steps are the bytes that are read for the first time
+abbrev pub CountsNew : {X E : Type 0} → Sections → Basics → Table → ℕ → Result X E → ℕ → ℕ → Type 0
+CountsNew src basics memory offset result before after =
+    IfOk result (λ _. IfOk (read_with src basics memory offset) (λ x. after ≡ before + steps_of src memory offset x))
+
+-- A declaration with types as numbers and the descriptors that it reaches, behind those that are remembered, are what
+-- reading with these gives.
+pub record IsRead (src : Sections) (basics : Basics) (memory : Table) (offset : ℕ) (parts : DeclParts)
+    (ds : List Descriptor) : Type 0 where
   pub read : Read
-  pub is : read_at src basics offset ≡ Ok read
+  pub is : read_with src basics memory offset ≡ Ok read
   pub form : read.form ≡ form_spelled parts
   pub value : read.value ≡ value_spelled parts
-  pub table : read.table ≡ known_of src.version ds
-  pub turn : AreInTurn src.version [] ds
+  pub table : read.table ≡ known_after src.version memory ds
+  pub turn : AreInTurn src.version memory ds
+  pub stacked : IsStacked (known_after src.version memory ds)
+  pub ends : EndsBy (length src.body) (known_after src.version memory ds)
 
-abbrev pub ReadsParts : Sections → Basics → ℕ → Result DeclParts ReadFault → List Descriptor → Type 0
-ReadsParts src basics offset (Ok parts) ds = IsRead src basics offset parts ds
-ReadsParts src basics offset (Err e) ds = FaultIs e (read_at src basics offset)
+abbrev pub ReadsParts : Sections → Basics → Table → ℕ → Result DeclParts ReadFault → List Descriptor → Type 0
+ReadsParts src basics memory offset (Ok parts) ds = IsRead src basics memory offset parts ds
+ReadsParts src basics memory offset (Err e) ds = FaultIs e (read_with src basics memory offset)
 
-abbrev pub ReadsSpelled : Sections → Basics → ℕ → Result Spelled ReadFault → Type 0
-ReadsSpelled src basics offset (Ok spelled) = IsRead src basics offset spelled.decl spelled.finished.items
-ReadsSpelled src basics offset (Err e) = FaultIs e (read_at src basics offset)
+abbrev pub ReadsSpelled : Sections → Basics → Table → ℕ → Result Spelled ReadFault → Type 0
+ReadsSpelled src basics memory offset (Ok spelled) =
+    IsRead src basics memory offset spelled.decl spelled.finished.items
+ReadsSpelled src basics memory offset (Err e) = FaultIs e (read_with src basics memory offset)
 
 -- the types of the descriptors, and those that the declaration names
-abbrev pub types_reached : ℕ → Spelled → List Tree
-types_reached version spelled =
-    types_of version spelled.finished.items
-    ++ form_types (decl_by version (known_of version spelled.finished.items) spelled.decl)
+abbrev pub types_reached : ℕ → Table → Spelled → List Tree
+types_reached version memory spelled =
+    types_after version memory spelled.finished.items
+    ++ form_types (decl_by version (known_after version memory spelled.finished.items) spelled.decl)
 
 -- a declaration whose types are nodes
 abbrev pub ReadsDecl : Result DeclNode DeclFault → List Node → Result Decl ByteFault → Type 0

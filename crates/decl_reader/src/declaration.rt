@@ -15,8 +15,11 @@ ghost use Rattle.decl_spelling.specs.Spelling.{SpellsDecl};
 ghost use Rattle.block_reader.specs.Calls.{sections_of, ahead_of};
 ghost use Rattle.block_reader.specs.Parts.{head_spelled};
 ghost use Rattle.decl_reader.specs.Forms.{IsUpToTypes};
-ghost use Rattle.decl_reader.specs.Progress.{known, IsReadyFor, GoesOn};
-ghost use Rattle.decl_reader.specs.Wholes.{IsPart, IsWhole, ReadsParts, ReadsSpelled, ReadsDecl, IfFault, CountsReached};
+ghost use Rattle.decl_reader.specs.Blocks.{table_of};
+ghost use Rattle.decl_reader.specs.Kept.{IsKept};
+ghost use Rattle.decl_reader.specs.Progress.{remembered, known, IsReadyFor, GoesOn};
+ghost use Rattle.decl_reader.specs.Wholes.{IsPart, IsWhole, ReadsParts, ReadsSpelled, ReadsDecl, IfFault};
+ghost use Rattle.decl_reader.specs.Wholes.{CountsReached, CountsNew};
 
 mod constants;
 mod methods;
@@ -28,6 +31,7 @@ use crate::finished::Spelled;
 use crate::nodes::add_spelled;
 use crate::places::Places;
 use crate::reading::Reading;
+use crate::table::Table;
 use block_reader::{Block, DeclHead, DeclParts, read_declaration_head};
 use file_parts::Parts;
 use std::alloc::Global;
@@ -70,28 +74,36 @@ pub fn read_decl<B: Basics, L: Ledger>(
         → Outgrows arena.old (types_read (sections_of parts.now) (B.meaning basics.now) offset) }
     ensures full { IsErrOf result DeclFault.Nodes → length arena.new.nodes ≡ arena.new.limit }
 {
-    let spelled = read_spelled(alloc, parts, offset, basics, steps)?;
-    add_spelled(alloc, parts.version, spelled, arena)
+    let mut table = Table::new(alloc);
+    let spelled = read_spelled(alloc, parts, offset, basics, &table, arena, steps)?;
+    add_spelled(alloc, parts.version, spelled, &mut table, arena)
 }
 
-/// The declaration with types as numbers, and the descriptors that it reaches.
-fn read_spelled<B: Basics, L: Ledger>(
+/// The declaration with types as numbers, and the descriptors that it reaches and that aren't remembered.
+pub(crate) fn read_spelled<B: Basics, L: Ledger>(
     alloc: Global,
     parts: &Parts<'_>,
     offset: u64,
     basics: &B,
+    memory: &Table,
+    arena: &Arena,
     steps: &mut Steps<L>,
 ) -> Result<Spelled, ReadFault>
     requires of_file { IsOfFile parts.now }
     requires inside { offset < parts.now.body_len }
+    requires memory { IsKept (sections_of parts.now) arena.now.nodes memory.now }
     ensures bytes { HoldsBytes (sections_of parts.now) }
-    ensures exact { ReadsSpelled (sections_of parts.now) (B.meaning basics.now) offset result }
-    ensures counted { CountsReached (sections_of parts.now) (B.meaning basics.now) offset result steps.old steps.new }
+    ensures exact { ReadsSpelled (sections_of parts.now) (B.meaning basics.now)
+        (table_of arena.now.nodes memory.now) offset result }
+    ensures counted { CountsNew (sections_of parts.now) (B.meaning basics.now)
+        (table_of arena.now.nodes memory.now) offset result steps.old steps.new }
     ensures at_most { steps.new ≤ steps.old + parts.now.body_len }
 {
     let mut block = Block::new(alloc, parts, offset, parts.body_len);
     let mut reading = Reading {
         alloc,
+        memory,
+        arena,
         finished: Vec::new(alloc),
         places: Places::new(alloc),
         steps,
@@ -99,6 +111,8 @@ fn read_spelled<B: Basics, L: Ledger>(
     let read = reading.read_out(parts, offset, basics, &mut block);
     let Reading {
         alloc: _alloc,
+        memory: _memory,
+        arena: _arena,
         finished: _finished,
         places: _places,
         steps: _steps,
@@ -119,10 +133,12 @@ impl<L: Ledger> Reading<'_, L> {
         requires bytes { HoldsBytes (sections_of parts.now) }
         requires inside { offset < parts.now.body_len }
         requires block { ahead_of block.old ≡ start (window (sections_of parts.now) offset parts.now.body_len) }
+        requires memory { IsKept (sections_of parts.now) self.old.arena.now.nodes self.old.memory.now }
         requires empty { self.old.finished.items ≡ [] }
         requires none_placed { self.old.places ≡ [] }
-        ensures exact { ReadsSpelled (sections_of parts.now) (B.meaning basics.now) offset result }
-        ensures counted { CountsReached (sections_of parts.now) (B.meaning basics.now) offset result
+        ensures exact { ReadsSpelled (sections_of parts.now) (B.meaning basics.now) (remembered self.old) offset
+            result }
+        ensures counted { CountsNew (sections_of parts.now) (B.meaning basics.now) (remembered self.old) offset result
             self.old.steps.now self.new.steps.now }
         ensures at_most { self.new.steps.now ≤ self.old.steps.now + parts.now.body_len }
         ensures same_steps { self.new.steps.ghost_name ≡ self.old.steps.ghost_name }
@@ -144,11 +160,12 @@ impl<L: Ledger> Reading<'_, L> {
         requires bytes { HoldsBytes (sections_of parts.now) }
         requires inside { offset < parts.now.body_len }
         requires block { ahead_of block.old ≡ start (window (sections_of parts.now) offset parts.now.body_len) }
+        requires memory { IsKept (sections_of parts.now) self.old.arena.now.nodes self.old.memory.now }
         requires empty { self.old.finished.items ≡ [] }
         requires none_placed { self.old.places ≡ [] }
-        ensures exact { ReadsParts (sections_of parts.now) (B.meaning basics.now) offset result
+        ensures exact { ReadsParts (sections_of parts.now) (B.meaning basics.now) (remembered self.old) offset result
             self.new.finished.items }
-        ensures counted { CountsReached (sections_of parts.now) (B.meaning basics.now) offset result
+        ensures counted { CountsNew (sections_of parts.now) (B.meaning basics.now) (remembered self.old) offset result
             self.old.steps.now self.new.steps.now }
         ensures at_most { self.new.steps.now ≤ self.old.steps.now + parts.now.body_len }
         ensures same_steps { self.new.steps.ghost_name ≡ self.old.steps.ghost_name }

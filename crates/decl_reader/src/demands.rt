@@ -1,6 +1,7 @@
 //! Whether a type is what its holder asks for.
 
 ghost use Rattle.std.specs.Prelude.{◌≡◌, ℕ};
+ghost use Rattle.type_terms.specs.NodeShapes.{node_shape};
 ghost use Rattle.type_terms.specs.Shapes.{retype};
 ghost use Rattle.type_terms.specs.Trees.{Tree, predeclared, tree_of};
 ghost use Rattle.decl_spelling.specs.Descent.{meets, unmet, may_underlie};
@@ -9,6 +10,7 @@ ghost use Rattle.decl_reader.specs.Shapes.{flat_shape};
 use block_reader::Flat;
 use code_tables::Basic;
 use decl_spelling::{Demand, Mention};
+use type_terms::Node;
 use wire_bytes::ByteFault;
 
 /// Whether a predeclared type is what its holder asks for.
@@ -53,6 +55,27 @@ pub(crate) fn flat_meets(asked: Demand, flat: &Flat) -> bool
             matches!(asked, Demand::Any | Demand::NoParameter)
         }
         Flat::Interface(_, _, _) => !matches!(asked, Demand::Parameter | Demand::Base),
+        _ => matches!(
+            asked,
+            Demand::Any | Demand::Underlying | Demand::NoParameter
+        ),
+    }
+}
+
+/// Whether the type of a node, whatever stands in it, is what its holder asks for.
+pub(crate) fn node_meets(asked: Demand, node: &Node) -> bool
+    ensures { (types : ℕ → Tree) → result ≡ meets asked (tree_of (retype types (node_shape node.now))) }
+{
+    match node {
+        Node::Predeclared(basic) => basic_meets(asked, *basic),
+        Node::Param(_) => matches!(asked, Demand::Any | Demand::Parameter),
+        Node::Named(_) | Node::AliasName(_) => {
+            matches!(asked, Demand::Any | Demand::Base | Demand::NoParameter)
+        }
+        Node::Instance(_, _) | Node::Union(_) => {
+            matches!(asked, Demand::Any | Demand::NoParameter)
+        }
+        Node::Iface(_, _, _) => !matches!(asked, Demand::Parameter | Demand::Base),
         _ => matches!(
             asked,
             Demand::Any | Demand::Underlying | Demand::NoParameter

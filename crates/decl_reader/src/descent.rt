@@ -3,6 +3,7 @@
 
 ghost use Rattle.std.specs.Prelude.{◌≡◌, ◌+◌, ◌<◌, ◌≤◌, ℕ, [], None, Err, length, IfOk, OnOk};
 ghost use Rattle.file_parts.specs.FileParts.{IsOfFile, body_of};
+ghost use Rattle.type_terms.specs.NodeShapes.{node_shape};
 ghost use Rattle.type_terms.specs.Shapes.{retype};
 ghost use Rattle.type_terms.specs.Trees.{Tree, tree_of};
 ghost use Rattle.decl_spelling.specs.Tables.{at};
@@ -19,15 +20,16 @@ ghost use Rattle.decl_reader.specs.Opens.{Resolves, Begins, resumed};
 ghost use Rattle.decl_reader.specs.Opens.{checked_basic, checked_type, checked_finished};
 ghost use Rattle.decl_reader.specs.Progress.{known, IsReadyFor, GoesOn};
 
-use crate::demands::{basic_meets, flat_meets, out_of_range, unmet};
+use crate::demands::{basic_meets, flat_meets, node_meets, out_of_range, unmet};
 use crate::finished::Descriptor;
-use crate::reading::{Reading, join};
+use crate::reading::{Known, Reading, join};
 use crate::type_off::TypeOff;
 use block_reader::{Block, Flat, basic_of, read_flat};
 use decl_spelling::{FIRST_DESCRIPTOR, Mention};
 use file_parts::Parts;
 use std::alloc::AllocError;
 use std::sync::ledger::Ledger;
+use type_terms::Node;
 use wire_bytes::{ByteFault, ReadFault};
 
 /// A descriptor that is open: its own bytes were read, and some of its types are still to be known.
@@ -150,8 +152,13 @@ impl<L: Ledger> Reading<'_, L> {
         requires within { holder ≤ parts.now.body_len }
         ensures { Begins (sections_of parts.now) (known parts.now self.now) holder named result }
     {
-        match self.place_at(parts, start) {
-            Some(place) => {
+        match self.known_at(parts, start) {
+            Some(Known::Remembered(finished)) => {
+                let node = self.arena.node(finished.node);
+                check_remembered(holder, named, finished.end, node)?;
+                Ok(None)
+            }
+            Some(Known::Read(place)) => {
                 let descriptor = &self.finished[place.index];
                 check_finished(holder, named, place.end, &descriptor.flat)?;
                 Ok(None)
@@ -176,7 +183,8 @@ impl<L: Ledger> Reading<'_, L> {
         requires new { at (known parts.now self.now) start ≡ None }
         ensures { IfOk result (IsBegun (sections_of parts.now) (known parts.now self.now) holder named) }
     {
-        let mut block = Block::new(self.alloc, parts, start, self.places.free_to(start, holder));
+        let free = self.free_to(parts, start, holder);
+        let mut block = Block::new(self.alloc, parts, start, free);
         let own = match read_flat(self.alloc, parts, &mut block) {
             Ok(flat) => Ok((flat, block.cursor.place() as u64 - parts.body_at)),
             Err(ReadFault::Bytes(fault)) => Err(fault),
@@ -196,7 +204,8 @@ impl<L: Ledger> Reading<'_, L> {
         requires ready { IsReadyFor parts.now self.old }
         requires is_open { IsOpen (sections_of parts.now) (known parts.now self.old) block }
         requires all { block.known ≡ length block.mentions.items }
-        ensures exact { Resolves result (known parts.now self.new) (closed parts.now.version (frame_of block) (known parts.now self.old)) }
+        ensures exact { Resolves result (known parts.now self.new)
+            (closed parts.now.version (frame_of block) (known parts.now self.old)) }
         ensures closed { OnOk result
             (IsClosed (sections_of parts.now) (known parts.now self.old) (known parts.now self.new) block) }
         ensures goes_on { GoesOn parts.now self.old self.new }
@@ -269,6 +278,22 @@ fn check_finished(holder: u64, named: Mention, end: u64, flat: &Flat) -> Result<
         return Err(out_of_range(named));
     }
     check_flat(named, flat)
+}
+
+/// The same of one that an earlier declaration has finished, by the node of its type.
+fn check_remembered(holder: u64, named: Mention, end: u64, node: &Node) -> Result<(), ByteFault>
+    ensures { (types : ℕ → Tree)
+        → result
+        ≡ checked_finished holder named (record { end = end; tree = tree_of (retype types (node_shape node.now)) }) }
+{
+    if end > holder {
+        return Err(out_of_range(named));
+    }
+    if node_meets(named.asked, node) {
+        Ok(())
+    } else {
+        Err(unmet(named))
+    }
 }
 
 /// What a descriptor spells, whatever stands in it, is what its holder asks for.

@@ -3,8 +3,8 @@
 ghost use Rattle.std.specs.Prelude.{◌≡◌, ◌<◌, List, [], ℕ, OnOk, OnErr, IfSome, option_map};
 ghost use Rattle.type_terms.specs.Trees.{Tree};
 ghost use Rattle.decl_spelling.specs.Tables.{at, free_to};
-ghost use Rattle.decl_reader.specs.Places.{placed_as, placed_of, with_place, AllPlaced, IsStacked, up_to, from};
-ghost use Rattle.decl_reader.specs.Places.{Covers, StartsFirst};
+ghost use Rattle.decl_reader.specs.Places.{place_at, placed_as, placed_of, with_place, AllPlaced, IsStacked};
+ghost use Rattle.decl_reader.specs.Places.{up_to, from, Covers, StartsFirst};
 
 use std::alloc::{AllocError, Global};
 use std::collections::BTreeMap;
@@ -44,6 +44,7 @@ impl Places {
 
     /// The place of the descriptor that starts at the offset.
     pub(crate) fn at(&self, offset: u64) -> Option<Place>
+        ensures place { result ≡ place_at self.now offset }
         ensures found { (types : ℕ → Tree)
             → option_map (placed_as types) result ≡ at (placed_of types self.now) offset }
         ensures inside { (size : ℕ) → AllPlaced size self.now → IfSome result (λ place. place.index < size) }

@@ -1,7 +1,9 @@
 //! The value of a constant, by the predeclared type to which its type comes down.
 
-ghost use Rattle.std.specs.Prelude.{◌≡◌, ℕ, Some};
+ghost use Rattle.std.specs.Prelude.{◌≡◌, ◌<◌, ℕ, Some, length};
 ghost use Rattle.file_parts.specs.FileParts.{IsOfFile};
+ghost use Rattle.type_terms.specs.Denotation.{tree};
+ghost use Rattle.type_terms.specs.NodeShapes.{node_shape};
 ghost use Rattle.type_terms.specs.Shapes.{retype};
 ghost use Rattle.type_terms.specs.Trees.{Tree, tree_of};
 ghost use Rattle.decl_spelling.specs.Tables.{type_named};
@@ -12,7 +14,7 @@ ghost use Rattle.decl_reader.specs.Shapes.{flat_shape};
 ghost use Rattle.decl_reader.specs.Wholes.{IsValue, value_by};
 
 use crate::basics::Basics;
-use crate::reading::Reading;
+use crate::reading::{Known, Reading};
 use crate::type_off::TypeOff;
 use block_reader::{
     Block, Flat, Kind, SpelledConst, SpelledName, basic_named, kind_of, read_value,
@@ -21,6 +23,7 @@ use code_tables::Basic;
 use file_parts::Parts;
 use std::alloc::Global;
 use std::sync::ledger::Ledger;
+use type_terms::{Arena, Node, NodeId};
 use wire_bytes::{ByteFault, ReadFault};
 
 impl<L: Ledger> Reading<'_, L> {
@@ -75,8 +78,9 @@ impl<L: Ledger> Reading<'_, L> {
     {
         match TypeOff::new(ty) {
             TypeOff::Basic(code) => Some(basic_named(parts.version, code)),
-            TypeOff::At(offset) => match self.place_at(parts, offset) {
-                Some(place) => {
+            TypeOff::At(offset) => match self.known_at(parts, offset) {
+                Some(Known::Remembered(finished)) => node_basic(self.arena, finished.node, basics),
+                Some(Known::Read(place)) => {
                     let descriptor = &self.finished[place.index];
                     self.flat_basic(parts, &descriptor.flat, basics)
                 }
@@ -106,8 +110,11 @@ impl<L: Ledger> Reading<'_, L> {
     {
         match TypeOff::new(base) {
             TypeOff::Basic(_) => None,
-            TypeOff::At(offset) => match self.place_at(parts, offset) {
-                Some(place) => {
+            TypeOff::At(offset) => match self.known_at(parts, offset) {
+                Some(Known::Remembered(finished)) => {
+                    named_node_basic(self.arena.node(finished.node), basics)
+                }
+                Some(Known::Read(place)) => {
                     let descriptor = &self.finished[place.index];
                     named_basic(&descriptor.flat, basics)
                 }
@@ -124,6 +131,32 @@ fn named_basic<B: Basics>(flat: &Flat, basics: &B) -> Option<Basic>
 {
     match flat {
         Flat::Defined(q) | Flat::Alias(q) => basic_of_name(q, basics),
+        _ => None,
+    }
+}
+
+/// The predeclared type to which the type of a node comes down. An instance comes down to what its base does.
+fn node_basic<B: Basics>(arena: &Arena, id: NodeId, basics: &B) -> Option<Basic>
+    requires there { id < length arena.now.nodes }
+    ensures { result ≡ basic_type (B.meaning basics.now) (tree arena.now.nodes id) }
+{
+    match arena.node(id) {
+        Node::Predeclared(basic) => Some(*basic),
+        Node::Instance(base, _) => named_node_basic(arena.node(*base), basics),
+        node => named_node_basic(node, basics),
+    }
+}
+
+/// The predeclared type to which the defined type or the alias of a node comes down by its name.
+fn named_node_basic<B: Basics>(node: &Node, basics: &B) -> Option<Basic>
+    ensures { (types : ℕ → Tree)
+        → result ≡ generic_basic (B.meaning basics.now) (tree_of (retype types (node_shape node.now))) }
+{
+    match node {
+        Node::Named(q) | Node::AliasName(q) => basics.basic_of(
+            q.path.as_slice(),
+            q.name.as_slice(),
+        ),
         _ => None,
     }
 }

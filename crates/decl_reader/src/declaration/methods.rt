@@ -2,6 +2,7 @@
 
 ghost use Rattle.std.specs.Prelude.{◌≡◌, ◌≤◌, ℕ, map};
 ghost use Rattle.file_parts.specs.FileParts.{IsOfFile};
+ghost use Rattle.type_terms.specs.NodeShapes.{node_shape};
 ghost use Rattle.type_terms.specs.Shapes.{retype};
 ghost use Rattle.type_terms.specs.Trees.{Tree, tree_of};
 ghost use Rattle.decl_spelling.specs.Reading.{list_at};
@@ -13,12 +14,13 @@ ghost use Rattle.decl_reader.specs.Progress.{known, IsReadyFor, GoesOn};
 ghost use Rattle.decl_reader.specs.Shapes.{flat_shape};
 ghost use Rattle.decl_reader.specs.Wholes.{IsPart, methods_by};
 
-use crate::reading::Reading;
+use crate::reading::{Known, Reading};
 use crate::type_off::TypeOff;
 use block_reader::{Block, Flat, ReceiverParts, basic_named, read_receivers};
 use code_tables::Basic;
 use file_parts::Parts;
 use std::sync::ledger::Ledger;
+use type_terms::Node;
 use wire_bytes::ReadFault;
 
 impl<L: Ledger> Reading<'_, L> {
@@ -33,7 +35,8 @@ impl<L: Ledger> Reading<'_, L> {
         requires of_file { IsOfFile parts.now }
         requires ready { IsReadyFor parts.now self.old }
         requires within { offset ≤ parts.now.body_len }
-        ensures exact { IsPart (λ v. map receiver_spelled v.items) result (ahead_of block.new) (known parts.now self.new)
+        ensures exact { IsPart (λ v. map receiver_spelled v.items) result (ahead_of block.new)
+            (known parts.now self.new)
             (methods_by (sections_of parts.now) offset (ahead_of block.old) (known parts.now self.old)
             (has_methods (type_named parts.now.version (known parts.now self.old) underlying))) }
         ensures goes_on { GoesOn parts.now self.old self.new }
@@ -55,7 +58,8 @@ impl<L: Ledger> Reading<'_, L> {
         requires of_file { IsOfFile parts.now }
         requires ready { IsReadyFor parts.now self.old }
         requires within { offset ≤ parts.now.body_len }
-        ensures exact { IsPart (λ v. map receiver_spelled v.items) result (ahead_of block.new) (known parts.now self.new)
+        ensures exact { IsPart (λ v. map receiver_spelled v.items) result (ahead_of block.new)
+            (known parts.now self.new)
             (resolved (sections_of parts.now) offset
             (list_at (receiver_at (sections_of parts.now)) (ahead_of block.old)) (known parts.now self.old)) }
         ensures goes_on { GoesOn parts.now self.old self.new }
@@ -81,8 +85,11 @@ impl<L: Ledger> Reading<'_, L> {
     {
         match TypeOff::new(underlying) {
             TypeOff::Basic(code) => basic_named(parts.version, code) != Basic::Any,
-            TypeOff::At(offset) => match self.place_at(parts, offset) {
-                Some(place) => {
+            TypeOff::At(offset) => match self.known_at(parts, offset) {
+                Some(Known::Remembered(finished)) => {
+                    node_has_methods(self.arena.node(finished.node))
+                }
+                Some(Known::Read(place)) => {
                     let descriptor = &self.finished[place.index];
                     flat_has_methods(&descriptor.flat)
                 }
@@ -97,4 +104,11 @@ fn flat_has_methods(flat: &Flat) -> bool
     ensures { (types : ℕ → Tree) → result ≡ has_methods (tree_of (retype types (flat_shape flat.now))) }
 {
     !matches!(flat, Flat::Interface(_, _, _))
+}
+
+/// The same of the type of a node.
+fn node_has_methods(node: &Node) -> bool
+    ensures { (types : ℕ → Tree) → result ≡ has_methods (tree_of (retype types (node_shape node.now))) }
+{
+    !matches!(node, Node::Iface(_, _, _) | Node::Predeclared(Basic::Any))
 }

@@ -1,12 +1,12 @@
 //! Declarations with types as nodes.
 
-ghost use Rattle.std.specs.Prelude.{◌≡◌, [], length, IfOk, IfErr, IsErrOf};
+ghost use Rattle.std.specs.Prelude.{◌≡◌, length, IfOk, IfErr, IsErrOf, OnOk};
 ghost use Rattle.type_terms.specs.Additions.{AddsOnly, Outgrows};
 ghost use Rattle.type_terms.specs.Arenas.{AllBelow, Extends};
 ghost use Rattle.type_terms.specs.Declarations.{decl_nodes, decl_of, form_types};
 ghost use Rattle.decl_reader.specs.Faults.{IsNoFault};
-ghost use Rattle.decl_reader.specs.Blocks.{AllInside};
-ghost use Rattle.decl_reader.specs.Finished.{known_of, AreInTurn};
+ghost use Rattle.decl_reader.specs.Blocks.{table_of, AllInside};
+ghost use Rattle.decl_reader.specs.Finished.{known_after, AreInTurn};
 ghost use Rattle.decl_reader.specs.Meant.{decl_by, decl_named};
 ghost use Rattle.decl_reader.specs.Wholes.{types_reached};
 
@@ -42,26 +42,34 @@ fn add_declaration(
     parts.with_nodes(alloc, version, table, arena)
 }
 
-/// The declaration and what it reaches, with types as nodes.
+/// The declaration and what it reaches, with types as nodes. The table gets the descriptors that were read.
 pub(crate) fn add_spelled(
     alloc: Global,
     version: u8,
     spelled: Spelled,
+    table: &mut Table,
     arena: &mut Arena,
 ) -> Result<DeclNode, DeclFault>
-    requires turn { AreInTurn version [] spelled.finished.items }
-    ensures denotes { IfOk result
-        (λ node. decl_of arena.new.nodes node ≡ decl_by version (known_of version spelled.finished.items) spelled.decl) }
+    requires inside { AllInside (length arena.old.nodes) table.old }
+    requires turn { AreInTurn version (table_of arena.old.nodes table.old) spelled.finished.items }
+    ensures denotes { IfOk result (λ node. decl_of arena.new.nodes node
+        ≡ decl_by version (known_after version (table_of arena.old.nodes table.old) spelled.finished.items)
+        spelled.decl) }
+    ensures table { OnOk result (table_of arena.new.nodes table.new
+        ≡ known_after version (table_of arena.old.nodes table.old) spelled.finished.items) }
+    ensures inside { OnOk result (AllInside (length arena.new.nodes) table.new) }
     ensures within { IfOk result (λ node. AllBelow (length arena.new.nodes) (decl_nodes node)) }
     ensures extends { Extends arena.old arena.new }
     ensures only_memory { IfErr result IsNoFault }
-    ensures adds { AddsOnly (types_reached version spelled) arena.old arena.new }
-    ensures outgrown { IsErrOf result DeclFault.Nodes → Outgrows arena.old (types_reached version spelled) }
+    ensures adds { AddsOnly (types_reached version (table_of arena.old.nodes table.old) spelled)
+        arena.old arena.new }
+    ensures outgrown { IsErrOf result DeclFault.Nodes
+        → Outgrows arena.old (types_reached version (table_of arena.old.nodes table.old) spelled) }
     ensures full { IsErrOf result DeclFault.Nodes → length arena.new.nodes ≡ arena.new.limit }
 {
     let Spelled { decl, finished } = spelled;
-    let table = add_descriptors(alloc, version, finished, arena)?;
-    add_declaration(alloc, version, decl, &table, arena)
+    add_descriptors(alloc, version, finished, table, arena)?;
+    add_declaration(alloc, version, decl, table, arena)
 }
 
 impl Kept for DeclParts {

@@ -9,7 +9,7 @@ ghost use Rattle.type_terms.specs.Trees.{tree_of};
 ghost use Rattle.decl_spelling.specs.Tables.{type_named};
 ghost use Rattle.decl_reader.specs.Faults.{IsNoFault};
 ghost use Rattle.decl_reader.specs.Blocks.{AllInside, table_of};
-ghost use Rattle.decl_reader.specs.Finished.{type_of, joined, known_of, types_of, MayJoin, AreInTurn};
+ghost use Rattle.decl_reader.specs.Finished.{type_of, joined, known_after, types_after, MayJoin, AreInTurn};
 ghost use Rattle.decl_reader.specs.Meant.{IsGenericFlat};
 ghost use Rattle.decl_reader.specs.Shapes.{flat_shape};
 
@@ -51,27 +51,31 @@ fn add_flat(
     Ok(arena.add(node)?)
 }
 
-/// The nodes of descriptors, each behind those that it names.
+/// The nodes of descriptors, each behind those that it names, join those of the table.
 pub(crate) fn add_descriptors(
     alloc: Global,
     version: u8,
     finished: Vec<Descriptor>,
+    table: &mut Table,
     arena: &mut Arena,
-) -> Result<Table, DeclFault>
-    requires turn { AreInTurn version [] finished.items }
-    ensures denotes { IfOk result (λ table. table_of arena.new.nodes table ≡ known_of version finished.items) }
-    ensures inside { IfOk result (AllInside (length arena.new.nodes)) }
+) -> Result<(), DeclFault>
+    requires inside { AllInside (length arena.old.nodes) table.old }
+    requires turn { AreInTurn version (table_of arena.old.nodes table.old) finished.items }
+    ensures denotes { OnOk result (table_of arena.new.nodes table.new
+        ≡ known_after version (table_of arena.old.nodes table.old) finished.items) }
+    ensures inside { OnOk result (AllInside (length arena.new.nodes) table.new) }
     ensures extends { Extends arena.old arena.new }
     ensures only_memory { IfErr result IsNoFault }
-    ensures adds { AddsOnly (types_of version finished.items) arena.old arena.new }
-    ensures outgrown { IsErrOf result DeclFault.Nodes → Outgrows arena.old (types_of version finished.items) }
+    ensures adds { AddsOnly (types_after version (table_of arena.old.nodes table.old) finished.items)
+        arena.old arena.new }
+    ensures outgrown { IsErrOf result DeclFault.Nodes
+        → Outgrows arena.old (types_after version (table_of arena.old.nodes table.old) finished.items) }
     ensures full { IsErrOf result DeclFault.Nodes → length arena.new.nodes ≡ arena.new.limit }
 {
-    let mut table = Table::new(alloc);
     for descriptor in finished {
-        add_descriptor(alloc, version, descriptor, &mut table, arena)?;
+        add_descriptor(alloc, version, descriptor, table, arena)?;
     }
-    Ok(table)
+    Ok(())
 }
 
 /// The node of a descriptor behind those that it names.

@@ -7,7 +7,7 @@ use Rattle.type_terms.specs.Extensions.{extends_again}
 use Rattle.decl_spelling.specs.Tables.{Table}
 use Rattle.decl_reader.specs.declared.finished.Descriptor.{Descriptor}
 use Rattle.decl_reader.specs.Blocks.{table_of}
-use Rattle.decl_reader.specs.Finished.{joined, known_after, types_after, types_of, type_of, AreInTurn}
+use Rattle.decl_reader.specs.Finished.{joined, known_after, types_after, type_of, AreInTurn}
 use Rattle.decl_reader.proofs.ExtendsLemmas.{none_left}
 use Rattle.decl_reader.proofs.WantLemmas.{passed}
 use Rattle.decl_reader.proofs.nodes.descriptors.add_descriptors.Goals as goal
@@ -21,7 +21,7 @@ loop-descriptor-preserved c =
     let steps : into_iter_items at.descriptor-iterator ≡ d ∷ left = c.in-Some.ensures.steps.0 in
     let was = table_of at.arena.nodes at.table in
     let new = c.add_descriptor.new.arena in
-    let all = types_of v c.args.finished.items in
+    let all = types_after v (table_of c.args.arena.now.nodes c.args.table.now) c.args.finished.items in
     let now_is = sym c.in_ok-add_descriptor.ensures.denotes in
     let turn = rw steps at at.invariant.turn in
     let known = rw steps at at.invariant.known in
@@ -55,7 +55,7 @@ returns-in_err-add_descriptor-clause-adds c =
     let left = into_iter_items c.next.new.self in
     let steps : into_iter_items at.descriptor-iterator ≡ d ∷ left = c.in-Some.ensures.steps.0 in
     let was = table_of at.arena.nodes at.table in
-    let all = types_of v c.args.finished.items in
+    let all = types_after v (table_of c.args.arena.now.nodes c.args.table.now) c.args.finished.items in
     let covers = rw steps at at.invariant.covers in
     let first = type_of v was d ∷ [] in
     let own = covers_again all (first ++ types_after v (joined v was d) left) first covers (covers_left first (types_after v (joined v was d) left)) in
@@ -70,7 +70,7 @@ returns-in_err-add_descriptor-clause-outgrown c wants =
     let left = into_iter_items c.next.new.self in
     let steps : into_iter_items at.descriptor-iterator ≡ d ∷ left = c.in-Some.ensures.steps.0 in
     let was = table_of at.arena.nodes at.table in
-    let all = types_of v c.args.finished.items in
+    let all = types_after v (table_of c.args.arena.now.nodes c.args.table.now) c.args.finished.items in
     let covers = rw steps at at.invariant.covers in
     let first = type_of v was d ∷ [] in
     let own = covers_again all (first ++ types_after v (joined v was d) left) first covers (covers_left first (types_after v (joined v was d) left)) in

@@ -2,9 +2,7 @@ use Rattle.std.proofs.Common.{◌≡◌, ◌≤◌, ◌-◌, ◌<◌, ℕ, sym, 
 use Rattle.decl_spelling.specs.Sections.{window}
 use Rattle.decl_spelling.specs.Reading.{start}
 use Rattle.decl_spelling.specs.Descriptors.{flat_at}
-use Rattle.decl_spelling.specs.Tables.{Table, at, free_to}
-use Rattle.decl_reader.specs.Finished.{type_at}
-use Rattle.decl_reader.specs.Places.{IsStacked}
+use Rattle.decl_spelling.specs.Tables.{at, free_to}
 use Rattle.decl_spelling.proofs.DeclAtLaws.{strings_are, body_is}
 use Rattle.decl_spelling.proofs.TableLaws.{free_within}
 use Rattle.decl_reader.specs.Progress.{known}
@@ -19,7 +17,7 @@ pub new-block-requires-clause-order : goal.new-block-requires-clause-order
 new-block-requires-clause-order g c =
     let o = c.args.start in
     let before : o < c.args.holder = c.requires.before in
-    subst (λ (n : ℕ). o ≤ n) (sym (subst (λ (done : Table). IsStacked done → c.free_to.result ≡ free_to c.args.start c.args.holder done) c.requires.ready.placed (c.free_to.ensures (type_at c.args.parts.now.version c.args.self.now.finished.items)) c.requires.ready.stacked)) (free_at_least o c.args.holder (known c.args.parts.now c.args.self.now) (omega arith))
+    subst (λ (n : ℕ). o ≤ n) (sym c.free_to-free.ensures) (free_at_least o c.args.holder (known c.args.parts.now c.args.self.now) (omega arith))
 
 pub new-block-requires-clause-inside : goal.new-block-requires-clause-inside
 new-block-requires-clause-inside g c =
@@ -27,7 +25,7 @@ new-block-requires-clause-inside g c =
     let before : o < c.args.holder = c.requires.before in
     let within : c.args.holder ≤ c.args.parts.now.body_len = c.requires.within in
     let free : free_to o c.args.holder (known c.args.parts.now c.args.self.now) ≤ c.args.holder = free_within o c.args.holder (known c.args.parts.now c.args.self.now) (omega arith) in
-    omega (arith, subst (λ (done : Table). IsStacked done → c.free_to.result ≡ free_to c.args.start c.args.holder done) c.requires.ready.placed (c.free_to.ensures (type_at c.args.parts.now.version c.args.self.now.finished.items)) c.requires.ready.stacked)
+    omega (arith, c.free_to-free.ensures)
 
 pub overflow_sub-own : goal.overflow_sub-own
 overflow_sub-own g c =
@@ -38,8 +36,8 @@ overflow_sub-own g c =
     let size = body_length c.args.parts.now c.requires.sections in
     let least : o ≤ free_to o c.args.holder (known c.args.parts.now c.args.self.now) = free_at_least o c.args.holder (known c.args.parts.now c.args.self.now) (omega arith) in
     let free : free_to o c.args.holder (known c.args.parts.now c.args.self.now) ≤ c.args.holder = free_within o c.args.holder (known c.args.parts.now c.args.self.now) (omega arith) in
-    let at : c.free_to.result ≡ free_to o c.args.holder (known c.args.parts.now c.args.self.now) = subst (λ (done : Table). IsStacked done → c.free_to.result ≡ free_to c.args.start c.args.holder done) c.requires.ready.placed (c.free_to.ensures (type_at c.args.parts.now.version c.args.self.now.finished.items)) c.requires.ready.stacked in
-    let read = whole src (strings_are src c.new-block.ensures.bytes) (body_is src c.new-block.ensures.bytes) o c.free_to.result (omega (arith, at, free, size)) (flat_spelled c.in-Ok.flat) (ahead_of c.read_flat.new.block) (omega (arith, at, least))
+    let at : c.free_to-free.result ≡ free_to o c.args.holder (known c.args.parts.now c.args.self.now) = c.free_to-free.ensures in
+    let read = whole src (strings_are src c.new-block.ensures.bytes) (body_is src c.new-block.ensures.bytes) o c.free_to-free.result (omega (arith, at, free, size)) (flat_spelled c.in-Ok.flat) (ahead_of c.read_flat.new.block) (omega (arith, at, least))
     (ap (flat_at src) (sym c.new-block.ensures.ahead) ∙ c.in-Ok.ensures) in
     omega (arith, read.begun, c.place.ensures.place)
 
@@ -52,13 +50,13 @@ returns g c =
     let less : c.args.start < c.args.holder = c.requires.before in
     let same : c.args.named.value - 32 ≡ c.args.start = omega (arith, c.requires.its_start) in
     let none : at done (c.args.named.value - 32) ≡ None = ap (at done) same ∙ c.requires.new in
-    let free : c.free_to.result ≡ free_to c.args.start c.args.holder done = subst (λ (done : Table). IsStacked done → c.free_to.result ≡ free_to c.args.start c.args.holder done) c.requires.ready.placed (c.free_to.ensures (type_at c.args.parts.now.version c.args.self.now.finished.items)) c.requires.ready.stacked in
+    let free : c.free_to-free.result ≡ free_to c.args.start c.args.holder done = c.free_to-free.ensures in
     let there : flat_at src (start (window src c.args.start (free_to c.args.start c.args.holder done))) ≡ flat_at src (ahead_of c.new-block.result)
     = sym (ap (λ (to : ℕ). flat_at src (start (window src c.args.start to))) free) ∙ ap (flat_at src) (sym c.new-block.ensures.ahead) in
     elim c.match-read_flat.branch [
-      | in-Ok w ↦ begun_whole_at src c.new-block.ensures.bytes done c.requires.ready.stacked c.args.holder c.args.named (omega (arith, c.requires.its_start)) (omega (arith, same)) (omega (arith, within, size)) none
+      | in-Ok w ↦ begun_whole_at src c.new-block.ensures.bytes done c.requires.ready.own.stacked c.args.holder c.args.named (omega (arith, c.requires.its_start)) (omega (arith, same)) (omega (arith, within, size)) none
           c.args.start same w.in-Ok.flat c.read_flat.new.block c.match-read_flat.own (there ∙ w.in-Ok.ensures) (w.own-is ∙ ap (λ (at : ℕ). Ok (w.in-Ok.flat, at - c.args.parts.now.body_at)) w.place.ensures.place)
-      | in-Err-Bytes w ↦ begun_fault_at src c.new-block.ensures.bytes done c.requires.ready.stacked c.args.holder c.args.named (omega (arith, c.requires.its_start)) (omega (arith, same)) (omega (arith, within, size)) none
+      | in-Err-Bytes w ↦ begun_fault_at src c.new-block.ensures.bytes done c.requires.ready.own.stacked c.args.holder c.args.named (omega (arith, c.requires.its_start)) (omega (arith, same)) (omega (arith, within, size)) none
           c.args.start same c.read_flat.new.block w.in-Err-Bytes.fault c.match-read_flat.own
           (there ∙ subst (λ (e : ReadFault). Stops e (ahead_of c.read_flat.new.block) (flat_at src (ahead_of c.new-block.result))) w.in-Err-Bytes.field-0-is w.in-Err-Bytes.ensures) w.own-is
     ]
