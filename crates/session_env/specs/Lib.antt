@@ -1,2 +1,4 @@
 pub mod SessionEntries
 pub mod SessionEntryLaws
+pub mod SessionReaders
+pub mod SessionReaderLaws
