@@ -31,10 +31,11 @@ use Rattle.block_walk.specs.Labels.{IsLabelled}
 use Rattle.block_walk.specs.NodeNames.{node_names}
 use Rattle.block_walk.specs.Standing.{Stands, HasRoom, Goes}
 use Rattle.block_walk.specs.Finishing.{IsPut}
+use Rattle.block_walk.proofs.KnownLemmas.{placed_cases}
 
 -- ---- numbers of types
 
-number_made : (type : Tree) (start : ℕ) → is_made type ≡ true → number_from type start ≡ FIRST_DESCRIPTOR + start
+pub number_made : (type : Tree) (start : ℕ) → is_made type ≡ true → number_from type start ≡ FIRST_DESCRIPTOR + start
 number_made (predeclared basic) start is = absurd cc
 number_made (named q) start is = refl
 number_made (parameter q) start is = refl
@@ -204,6 +205,7 @@ module _ (nodes : List Node) (own : Text) (id : ℕ) where
                 ∙ put.labelled.kept j made ∙ stands.numbers j low made
                 ∙ sym (ap (number_from (tree nodes j)) (start_other (tree nodes j) blocks _ (other_tree j low other)))
           ];
+          denoted = λ t e. elim (placed_cases t blocks _ e) [ inl was ↦ stands.denoted t was | inr same ↦ (id, there, sym same) ];
           placed = λ j low. elim (cases_eq j id) [
             | inl same ↦
                 subst (λ n. slice_index_or new.placed.items n false ≡ is_placed (put_type own offset out (tree nodes id)).written.blocks (tree nodes n)) (sym same)

@@ -137,7 +137,7 @@ placed_last : (type : Tree) (blocks : List Block) (block : Block) → block.tree
 placed_last type [] block is = or_left (same_tree type block.tree) false (subst (λ (t : Tree). same_tree type t ≡ true) (sym is) (same_itself type))
 placed_last type (b ∷ bs) block is = or_right (same_tree type b.tree) (is_placed (bs ++ block ∷ []) type) (placed_last type bs block is)
 
-placed_cases : (type : Tree) (blocks : List Block) (block : Block) → is_placed (blocks ++ block ∷ []) type ≡ true → (is_placed blocks type ≡ true) ⊎ (type ≡ block.tree)
+pub placed_cases : (type : Tree) (blocks : List Block) (block : Block) → is_placed (blocks ++ block ∷ []) type ≡ true → (is_placed blocks type ≡ true) ⊎ (type ≡ block.tree)
 placed_cases type [] block e = by (same_tree type block.tree) refl e
   where
     by : (c : Bool) → same_tree type block.tree ≡ c → (c || false) ≡ true → (false ≡ true) ⊎ (type ≡ block.tree)

@@ -7,3 +7,4 @@ mod LabelLemmas
 mod FinishLemmas
 mod WeightLemmas
 mod WalkingLemmas
+mod RoomLemmas

@@ -173,6 +173,7 @@ module _ (nodes : List Node) (own : Text) where
             names = stands.names;
             numbers = stands.numbers;
             placed = stands.placed;
+            denoted = stands.denoted;
           },
           refl,
         );
@@ -195,6 +196,7 @@ module _ (nodes : List Node) (own : Text) where
             names = ap (λ ns. ns.keys) names ∙ stands.names;
             numbers = λ id low made. ap (λ ns. slice_index_or ns.items id 0) numbers ∙ stands.numbers id low made;
             placed = λ id low. ap (λ ms. slice_index_or ms.items id false) placed ∙ stands.placed id low;
+            denoted = stands.denoted;
           },
           refl,
         );

@@ -28,6 +28,9 @@ pub record Stands (nodes : List Node) (section : Section) (out : Out) : Type 0 w
       → slice_index_or section.numbers.items id 0 ≡ number_in out.written.blocks (tree nodes id)
   pub placed : (id : ℕ) → id < length nodes
       → slice_index_or section.placed.items id false ≡ is_placed out.written.blocks (tree nodes id)
+  -- what is written is denoted by a node
+  pub denoted : (type : Tree) → is_placed out.written.blocks type ≡ true
+      → (id : ℕ) × (id < length nodes) × (tree nodes id ≡ type)
 
 -- each node has a number and a mark
 pub record HasRoom (nodes : List Node) (section : Section) : Type 0 where

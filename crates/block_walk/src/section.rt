@@ -1,13 +1,15 @@
 //! What was written so far.
 
-ghost use Rattle.std.specs.Prelude.{◌≡◌, [], false, slice_index_or};
-ghost use Rattle.block_walk.specs.Going.{nothing_out};
+ghost use Rattle.std.specs.Prelude.{◌≡◌, [], ◌++◌, List, false, slice_index_or, OnOk};
+ghost use Rattle.type_terms.specs.declared.descriptors.Node.{Node};
+ghost use Rattle.block_walk.specs.Going.{Out, nothing_out};
 ghost use Rattle.block_walk.specs.Standing.{HasRoom, Stands};
 
+use decl_spelling::FIRST_DESCRIPTOR;
 use go_values::{Bytes, QName};
 use indexmap::IndexSet;
-use std::alloc::Global;
-use type_terms::NodeId;
+use std::alloc::{AllocError, Global};
+use type_terms::{Arena, NodeId};
 use wire_bytes::{Strings, Writer};
 
 /// The data section as it is written, with what is mentioned in it.
@@ -47,6 +49,17 @@ impl Section {
             numbers: Vec::new(alloc),
             placed: Vec::new(alloc),
         }
+    }
+
+    /// Gives each node of what is written a number and a mark, where nodes came since. All else stays.
+    pub fn make_room(&mut self, nodes: &Arena) -> Result<(), AllocError>
+        ensures room { OnOk result (HasRoom nodes.now.nodes self.new) }
+        ensures stands { OnOk result ((old more : List Node) (out : Out) → nodes.now.nodes ≡ old ++ more
+            → HasRoom old self.old → Stands old self.old out → Stands nodes.now.nodes self.new out) }
+    {
+        let count = nodes.len() as usize;
+        self.numbers.resize(count, FIRST_DESCRIPTOR)?;
+        self.placed.resize(count, false)
     }
 }
 

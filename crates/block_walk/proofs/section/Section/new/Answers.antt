@@ -9,6 +9,7 @@ returns-clause-stands c = record {
   names = search rules;
   numbers = λ id low made. absurd (omega (arith, low));
   placed = λ id low. absurd (omega (arith, low));
+  denoted = λ type e. absurd cc;
 }
 
 pub returns-clause-room : goal.returns-clause-room
