@@ -20,7 +20,7 @@ PARTS = [
     ("getting memory", r"malloc\.c:(?!_int_free|malloc_consolidate|unlink)|rattle_(re)?alloc|Vec::(grow|move_to)"),
     ("giving it back", r"free|malloc_consolidate|unlink_chunk|rattle_dealloc|drop|destroy|Destruct"),
     ("words and main", r"exportdata::|command_words|Pattern|rattle_arg|utf8|exportdata_cmd"),
-    ("look-up", r"session::|name_index|RefSliceOrd"),
+    ("look-up", r"session_files::|session_env::|asked_names::|name_index|RefSliceOrd"),
     ("numbers", r"wire_bytes::(number|cursor)"),
     ("texts", r"read_text|read_path|wire_bytes::text|file_parts"),
     ("positions", r"read_pos|position_codec"),

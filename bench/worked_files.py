@@ -1,9 +1,10 @@
 #!/usr/bin/env python3
-"""Makes the full files that were written by hand: the program's example, and the tests' file with every kind of declaration.
+"""Makes the full files that were written by hand: the program's example, the tests' file with every kind of declaration, and
+small ones that sessions of several files are made of.
 
 The descriptions below say what each declaration is; what lays them out follows docs/FORMAT.md and uses nothing of ours.
 
-usage: bench/worked_files.py shapes|every > FILE
+usage: bench/worked_files.py shapes|every|of_int|of_string|of_int8|of_other > FILE
 """
 import sys
 
@@ -179,7 +180,7 @@ def union(*terms):
     return fill
 
 
-BOOL, INT, FLOAT64, STRING, ERROR, UNTYPED_INT, UNTYPED_STRING, COMPARABLE, ANY = 0, 1, 13, 16, 19, 21, 25, 30, 31
+BOOL, INT, INT8, FLOAT64, STRING, ERROR, UNTYPED_INT, UNTYPED_STRING, COMPARABLE, ANY = 0, 1, 2, 13, 16, 19, 21, 25, 30, 31
 
 
 def shapes():
@@ -232,5 +233,28 @@ def every():
     return file
 
 
+def of(name, of_type):
+    """package p with `type NAME TYPE` at line 2, column 6."""
+    file = File("p")
+    file.declare(name, "T", lambda b: b.pos(("p.go", 2, 6)).type(of_type).methods([]))
+    return file
+
+
+def of_other():
+    """package q with `const X p.D = -3`, where D is an int8."""
+    file = File("q", ["p"])
+    file.declare("X", "C", lambda b: b.pos(("q.go", 2, 7)).type(named("D", "p")).numbers(6, 5))
+    return file
+
+
+FILES = {
+    "shapes": shapes,
+    "every": every,
+    "of_int": lambda: of("T", INT),
+    "of_string": lambda: of("T", STRING),
+    "of_int8": lambda: of("D", INT8),
+    "of_other": of_other,
+}
+
 if __name__ == "__main__":
-    sys.stdout.buffer.write({"shapes": shapes, "every": every}[sys.argv[1]]().bytes())
+    sys.stdout.buffer.write(FILES[sys.argv[1]]().bytes())

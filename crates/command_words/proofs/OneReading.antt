@@ -1,5 +1,5 @@
 -- Words have one reading.
-use Rattle.std.proofs.Common.{◌≤◌, ◌≡◌, ℕ, ◌+◌, ◌<◌, inl, inr, suc, List, [], ◌∷◌, ◌++◌, length, take, drop, map, refl, ap, arith}
+use Rattle.std.proofs.Common.{◌≤◌, ◌≡◌, ℕ, ◌+◌, ◌<◌, inl, inr, suc, List, [], ◌∷◌, ◌++◌, length, take, drop, map, get_or, codes, refl, sym, ◌∙◌, ap, arith}
 use Rattle.std.specs.List.{AllByRecursion}
 use Rattle.std.proofs.lemmas.Bool.{cases_lt, cases_order}
 use Rattle.std.proofs.lemmas.List.{take-append-drop}
@@ -40,20 +40,50 @@ one_list (x ∷ xs) (y ∷ ys) sx sy e =
     let others = one_list xs ys sx.1 sy.1 tails in
     λ i. first i ∷ others i
 
+-- the two commands differ by name
+pub apart_by_name : (words others : List Word) → codes "list" ∷ words ≡ codes "show" ∷ others → ⊥
+apart_by_name words others e =
+    let first : ◌≡◌ {A = ℕ} 108 115 = ap (λ (t : List Word). get_or (get_or t 0 []) 0 0) e in
+    omega arith
+
+-- no source's word is the mark
+pub not_mark : (source : Source) → source_word source ≡ codes "--" → ⊥
+not_mark source e =
+    let first : ◌≡◌ {A = ℕ} 102 45 = ap (λ (w : Word). get_or w 0 0) e in
+    omega arith
+
+pub heads_are : {X : Type 0} (x y : X) (xs ys : List X) → x ∷ xs ≡ y ∷ ys → x ≡ y
+heads_are x y xs ys e = cc
+
+pub tails_are : {X : Type 0} (x y : X) (xs ys : List X) → x ∷ xs ≡ y ∷ ys → xs ≡ ys
+tails_are x y xs ys e = cc
+
+-- sources up to the mark, and names behind it
+one_shown : (xs ys : List Source) (ms ns : List Name) → AllByRecursion IsSource xs → AllByRecursion IsSource ys
+    → AllByRecursion IsName ms → AllByRecursion IsName ns
+    → map source_word xs ++ codes "--" ∷ map name_word ms ≡ map source_word ys ++ codes "--" ∷ map name_word ns
+    → (xs ≡ ys) × (ms ≡ ns)
+one_shown [] [] ms ns sx sy sm sn e = (refl, one_list ms ns sm sn (tails_are _ _ _ _ e))
+one_shown [] (y ∷ ys) ms ns sx sy sm sn e = absurd (not_mark y (sym (heads_are _ _ _ _ e)))
+one_shown (x ∷ xs) [] ms ns sx sy sm sn e = absurd (not_mark x (heads_are _ _ _ _ e))
+one_shown (x ∷ xs) (y ∷ ys) ms ns sx sy sm sn e =
+    let first = one_source x y sx.0 sy.0 (heads_are _ _ _ _ e) in
+    let more = one_shown xs ys ms ns sx.1 sy.1 sm sn (tails_are _ _ _ _ e) in
+    let others : xs ≡ ys = more.0 in
+    (λ i. first i ∷ others i, more.1)
+
 pub one_request : (words : List Word) (a b : Request) → IsForm words a → IsForm words b → a ≡ b
 one_request words (list a) (list b) fa fb =
     let ea = fa.0 in let eb = fb.0 in
     let same : source_word a ≡ source_word b = cc in
     ap list (one_source a b fa.1 fb.1 same)
-one_request words (list a) (show b ys) fa fb = let ea = fa.0 in let eb = fb.0 in cc
-one_request words (show a xs) (list b) fa fb = let ea = fa.0 in let eb = fb.0 in cc
+one_request words (list a) (show b ys) fa fb = absurd (apart_by_name _ _ (sym fa.0 ∙ fb.0))
+one_request words (show a xs) (list b) fa fb = absurd (apart_by_name _ _ (sym fb.0 ∙ fa.0))
 one_request words (show a xs) (show b ys) fa fb =
-    let ea = fa.0 in let eb = fb.0 in
-    let same : source_word a ≡ source_word b = cc in
-    let alike : map name_word xs ≡ map name_word ys = cc in
-    let source = one_source a b fa.1 fb.1 same in
-    let names = one_list xs ys fa.2 fb.2 alike in
-    λ i. show (source i) (names i)
+    let parts = one_shown a b xs ys fa.2 fb.2 fa.3 fb.3 (tails_are _ _ _ _ (sym fa.0 ∙ fb.0)) in
+    let sources : a ≡ b = parts.0 in
+    let names : xs ≡ ys = parts.1 in
+    λ i. show (sources i) (names i)
 
 -- a form begins with each front of it
 pub begun : (words : List Word) (k : ℕ) (request : Request) → IsForm words request → Begins (take k words)

@@ -8,7 +8,7 @@ use Rattle.std.proofs.lemmas.Option.{slice_get_within}
 use Rattle.command_words.specs.Texts.{Word, Source, source_word, IsSource, Name, name_word, IsName, divided_name, IsNameWord, IsFirstOther}
 use Rattle.command_words.specs.Forms.{Request, list, show, IsForm, Begins, IsWrongWord}
 use Rattle.command_words.proofs.Named.{all_spelled, all_sound}
-use Rattle.command_words.proofs.OneReading.{begun}
+use Rattle.command_words.proofs.OneReading.{begun, apart_by_name, not_mark, heads_are, tails_are}
 
 -- a form begins with each front of words with which one begins
 begins_within : (words front behind : List Word) → words ≡ front ++ behind → Begins front → (j : ℕ) → j < length front + 1 → Begins (take j words)
@@ -60,7 +60,8 @@ example_sound = record {
   file = record { some = λ e. cc; plain = λ e. cc };
 }
 
--- what begins a form: nothing, the name of a command, its source, and for `show` the mark and words that name names
+-- what begins a form: nothing, the name of a command, its source, and for `show` sources, the mark and words that name
+-- names
 
 begins_none : Begins []
 begins_none = (codes "list" ∷ source_word example ∷ [], list example, (refl, example_sound))
@@ -68,25 +69,30 @@ begins_none = (codes "list" ∷ source_word example ∷ [], list example, (refl,
 pub begins_list : Begins (codes "list" ∷ [])
 begins_list = (source_word example ∷ [], list example, (refl, example_sound))
 
-pub begins_show : Begins (codes "show" ∷ [])
-begins_show = (source_word example ∷ codes "--" ∷ [], show example [], (refl, example_sound, tt))
-
 begins_listed : (source : Source) → IsSource source → Begins (codes "list" ∷ source_word source ∷ [])
 begins_listed source sound = ([], list source, (refl, sound))
 
-begins_shown : (source : Source) → IsSource source → Begins (codes "show" ∷ source_word source ∷ [])
-begins_shown source sound = (codes "--" ∷ [], show source [], (refl, sound, tt))
+some : {X : Type 0} (x : X) (xs : List X) → x ∷ xs ≢ []
+some x xs e = cc
 
-begins_named : (source : Source) (words : List Word) → IsSource source → All IsNameWord words → Begins (codes "show" ∷ source_word source ∷ codes "--" ∷ words)
-begins_named source words sound named =
-    let spelled : words ++ [] ≡ map name_word (map divided_name words) = append-nil words ∙ all_spelled words named in
-    ([], show source (map divided_name words), (ap (λ t. codes "show" ∷ source_word source ∷ codes "--" ∷ t) spelled, sound, all_sound words named))
+begins_shown : (sources : List Source) → AllByRecursion IsSource sources → Begins (codes "show" ∷ map source_word sources)
+begins_shown [] sound =
+    (source_word example ∷ codes "--" ∷ [], show (example ∷ []) [], (refl, some example [], (example_sound, tt), tt))
+begins_shown (source ∷ sources) sound =
+    (codes "--" ∷ [], show (source ∷ sources) [], (refl, some source sources, sound, tt))
 
--- the two commands differ by name
-apart_by_name : (words others : List Word) → codes "list" ∷ words ≡ codes "show" ∷ others → ⊥
-apart_by_name words others e =
-    let first : ◌≡◌ {A = ℕ} 108 115 = ap (λ (t : List Word). get_or (get_or t 0 []) 0 0) e in
-    omega arith
+begins_named : (sources : List Source) (words : List Word) → sources ≢ [] → AllByRecursion IsSource sources → All IsNameWord words
+    → Begins (codes "show" ∷ (map source_word sources ++ codes "--" ∷ words))
+begins_named sources words any sound named =
+    let spelled : words ++ [] ≡ map name_word (map divided_name words) =
+    append-nil words ∙ all_spelled name_word IsName divided_name words named in
+    let whole =
+    append_assoc (map source_word sources) (codes "--" ∷ words) []
+    ∙ ap (λ t. map source_word sources ++ codes "--" ∷ t) spelled in (
+      [],
+      show sources (map divided_name words),
+      (ap (λ t. codes "show" ∷ t) whole, any, sound, all_sound name_word IsName divided_name words named),
+    )
 
 -- no form is empty
 never_empty : (request : Request) → IsForm [] request → ⊥
@@ -101,25 +107,50 @@ named name more (show source names) no_list no_show form = no_show (let e = form
 -- a source follows the name
 sourced : (name word : Word) (more : List Word) (request : Request) → ((source : Source) → IsSource source → word ≢ source_word source) → IsForm (name ∷ word ∷ more) request → ⊥
 sourced name word more (list source) differs form = differs source form.1 (let e = form.0 in cc)
-sourced name word more (show source names) differs form = differs source form.1 (let e = form.0 in cc)
+sourced name word more (show [] names) differs form = form.1 refl
+sourced name word more (show (source ∷ sources) names) differs form =
+    differs source form.2.0 (heads_are _ _ _ _ (tails_are _ _ _ _ form.0))
 
 alone : (name : Word) (request : Request) → IsForm (name ∷ []) request → ⊥
 alone name (list source) form = let e = form.0 in cc
-alone name (show source names) form = let e = form.0 in cc
+alone name (show [] names) form = form.1 refl
+alone name (show (source ∷ sources) names) form = let e = tails_are _ _ _ _ form.0 in absurd (some _ _ (sym e))
 
 -- nothing follows the source of a list
 ended : (word other : Word) (more : List Word) (request : Request) → IsForm (codes "list" ∷ word ∷ other ∷ more) request → ⊥
 ended word other more (list source) form = let e = form.0 in cc
-ended word other more (show source names) form = apart_by_name _ _ form.0
+ended word other more (show sources names) form = apart_by_name _ _ form.0
 
--- a mark follows the other
-unmarked : (word : Word) (request : Request) → IsForm (codes "show" ∷ word ∷ []) request → ⊥
-unmarked word (list source) form = apart_by_name _ _ (sym form.0)
-unmarked word (show source names) form = let e = form.0 in cc
+-- a mark follows sources
+ends_unmarked : (sources others : List Source) (behind : List Word) → map source_word sources ≡ map source_word others ++ codes "--" ∷ behind → ⊥
+ends_unmarked [] [] behind e = some _ _ (sym e)
+ends_unmarked [] (other ∷ others) behind e = some _ _ (sym e)
+ends_unmarked (source ∷ sources) [] behind e = not_mark source (heads_are _ _ _ _ e)
+ends_unmarked (source ∷ sources) (other ∷ others) behind e = ends_unmarked sources others behind (tails_are _ _ _ _ e)
 
-marked : (word mark : Word) (more : List Word) (request : Request) → mark ≢ codes "--" → IsForm (codes "show" ∷ word ∷ mark ∷ more) request → ⊥
-marked word mark more (list source) differs form = apart_by_name _ _ (sym form.0)
-marked word mark more (show source names) differs form = differs (let e = form.0 in cc)
+unmarked : (sources : List Source) (request : Request) → IsForm (codes "show" ∷ map source_word sources) request → ⊥
+unmarked sources (list source) form = apart_by_name _ _ (sym form.0)
+unmarked sources (show others names) form = ends_unmarked sources others (map name_word names) (tails_are _ _ _ _ form.0)
+
+goes_unmarked : (sources others : List Source) (mark : Word) (more behind : List Word)
+    → AllByRecursion IsSource others
+    → ((source : Source) → IsSource source → mark ≢ source_word source) → mark ≢ codes "--"
+    → map source_word sources ++ mark ∷ more ≡ map source_word others ++ codes "--" ∷ behind
+    → ⊥
+goes_unmarked [] [] mark more behind sound other differs e = differs (heads_are _ _ _ _ e)
+goes_unmarked [] (o ∷ others) mark more behind sound other differs e = other o sound.0 (heads_are _ _ _ _ e)
+goes_unmarked (source ∷ sources) [] mark more behind sound other differs e = not_mark source (heads_are _ _ _ _ e)
+goes_unmarked (source ∷ sources) (o ∷ others) mark more behind sound other differs e =
+    goes_unmarked sources others mark more behind sound.1 other differs (tails_are _ _ _ _ e)
+
+marked : (sources : List Source) (mark : Word) (more : List Word) (request : Request)
+    → ((source : Source) → IsSource source → mark ≢ source_word source)
+    → mark ≢ codes "--"
+    → IsForm (codes "show" ∷ (map source_word sources ++ mark ∷ more)) request
+    → ⊥
+marked sources mark more (list source) other differs form = apart_by_name _ _ (sym form.0)
+marked sources mark more (show others names) other differs form =
+    goes_unmarked sources others mark more (map name_word names) form.2 other differs (tails_are _ _ _ _ form.0)
 
 -- and names only
 among : (names : List Name) (front : List Word) (other : Word) (behind : List Word) → ((name : Name) → IsName name → other ≢ name_word name)
@@ -129,10 +160,20 @@ among [] (word ∷ front) other behind differs sound e = cc
 among (name ∷ names) [] other behind differs sound e = differs name sound.0 (cc)
 among (name ∷ names) (word ∷ front) other behind differs sound e = among names front other behind differs sound.1 (cc)
 
-unnamed : (word : Word) (front : List Word) (other : Word) (behind : List Word) (request : Request) → ((name : Name) → IsName name → other ≢ name_word name)
-    → IsForm (codes "show" ∷ word ∷ codes "--" ∷ (front ++ other ∷ behind)) request → ⊥
-unnamed word front other behind (list source) differs form = apart_by_name _ _ (sym form.0)
-unnamed word front other behind (show source names) differs form = among names front other behind differs form.2 (let e = form.0 in cc)
+behind_mark : (sources others : List Source) (xs ys : List Word)
+    → map source_word sources ++ codes "--" ∷ xs ≡ map source_word others ++ codes "--" ∷ ys
+    → xs ≡ ys
+behind_mark [] [] xs ys e = tails_are _ _ _ _ e
+behind_mark [] (other ∷ others) xs ys e = absurd (not_mark other (sym (heads_are _ _ _ _ e)))
+behind_mark (source ∷ sources) [] xs ys e = absurd (not_mark source (heads_are _ _ _ _ e))
+behind_mark (source ∷ sources) (other ∷ others) xs ys e = behind_mark sources others xs ys (tails_are _ _ _ _ e)
+
+unnamed : (sources : List Source) (front : List Word) (other : Word) (behind : List Word) (request : Request) → ((name : Name) → IsName name → other ≢ name_word name)
+    → IsForm (codes "show" ∷ (map source_word sources ++ codes "--" ∷ (front ++ other ∷ behind))) request → ⊥
+unnamed sources front other behind (list source) differs form = apart_by_name _ _ (sym form.0)
+unnamed sources front other behind (show others names) differs form =
+    among names front other behind differs form.3
+    (behind_mark sources others (front ++ other ∷ behind) (map name_word names) (tails_are _ _ _ _ form.0))
 
 pub wrong_empty : IsWrongWord [] 1
 wrong_empty = wrong_after [] begins_none never_empty
@@ -150,12 +191,24 @@ pub wrong_more : (source : Source) (other : Word) (more : List Word) → IsSourc
 wrong_more source other more sound =
     wrong_at (codes "list" ∷ source_word source ∷ []) other more (begins_listed source sound) (λ behind request. ended (source_word source) other behind request)
 
-pub wrong_unmarked : (source : Source) → IsSource source → IsWrongWord (codes "show" ∷ source_word source ∷ []) 3
-wrong_unmarked source sound = wrong_after (codes "show" ∷ source_word source ∷ []) (begins_shown source sound) (unmarked (source_word source))
+-- the number of the word behind so many sources
+number_behind : (sources : List Source) → length (codes "show" ∷ map source_word sources) + 1 ≡ length sources + 2
+number_behind sources = omega (arith, length-map sources source_word)
 
-pub wrong_mark : (source : Source) (mark : Word) (more : List Word) → IsSource source → mark ≢ codes "--" → IsWrongWord (codes "show" ∷ source_word source ∷ mark ∷ more) 3
-wrong_mark source mark more sound differs =
-    wrong_at (codes "show" ∷ source_word source ∷ []) mark more (begins_shown source sound) (λ behind request. marked (source_word source) mark behind request differs)
+pub wrong_unmarked : (sources : List Source) → AllByRecursion IsSource sources
+    → IsWrongWord (codes "show" ∷ map source_word sources) (length sources + 2)
+wrong_unmarked sources sound =
+    subst (IsWrongWord (codes "show" ∷ map source_word sources)) (number_behind sources)
+    (wrong_after (codes "show" ∷ map source_word sources) (begins_shown sources sound) (unmarked sources))
+
+pub wrong_mark : (sources : List Source) (mark : Word) (more : List Word) → AllByRecursion IsSource sources
+    → ((source : Source) → IsSource source → mark ≢ source_word source)
+    → mark ≢ codes "--"
+    → IsWrongWord (codes "show" ∷ (map source_word sources ++ mark ∷ more)) (length sources + 2)
+wrong_mark sources mark more sound other differs =
+    subst (IsWrongWord (codes "show" ∷ (map source_word sources ++ mark ∷ more))) (number_behind sources)
+    (wrong_at (codes "show" ∷ map source_word sources) mark more (begins_shown sources sound)
+    (λ behind request. marked sources mark behind request other differs))
 
 -- a list is what stands before an item, the item and what follows
 split_there : (words : List Word) (k : ℕ) (word : Word) → slice_get words k ≡ Some word → (words ≡ take k words ++ word ∷ drop (suc k) words) × (length (take k words) ≡ k)
@@ -165,16 +218,22 @@ split_there (first ∷ words) (suc k) word is =
     let rest = split_there words k word is in
     (ap (λ t. first ∷ t) rest.0, omega (arith, rest.1))
 
-pub wrong_named : (source : Source) (words : List Word) (k : ℕ) → IsSource source → IsFirstOther words k → IsWrongWord (codes "show" ∷ source_word source ∷ codes "--" ∷ words) (k + 4)
-wrong_named source words k sound first =
+pub wrong_named : (sources : List Source) (words : List Word) (k : ℕ) → sources ≢ [] → AllByRecursion IsSource sources → IsFirstOther words k
+    → IsWrongWord (codes "show" ∷ (map source_word sources ++ codes "--" ∷ words)) (length sources + 2 + 1 + k)
+wrong_named sources words k any sound first =
     let parts = split_there words k first.word first.there in
-    let front : List Word = codes "show" ∷ source_word source ∷ codes "--" ∷ take k words in
-    let wrong = wrong_at front first.word (drop (suc k) words) (begins_named source (take k words) sound first.names)
-    (λ behind request. unnamed (source_word source) (take k words) first.word behind request first.other) in
-    let number : length front + 1 ≡ k + 4 = omega (arith, parts.1) in
-    let whole : front ++ first.word ∷ drop (suc k) words ≡ codes "show" ∷ source_word source ∷ codes "--" ∷ words =
-    ap (λ t. codes "show" ∷ source_word source ∷ codes "--" ∷ t) (sym parts.0) in
-    rw (sym whole) (rw (sym number) wrong)
+    let known = map source_word sources in
+    let front : List Word = codes "show" ∷ (known ++ codes "--" ∷ take k words) in
+    let wrong = wrong_at front first.word (drop (suc k) words) (begins_named sources (take k words) any sound first.names)
+    (λ behind request form.
+    unnamed sources (take k words) first.word behind request first.other
+    (subst (λ t. IsForm (codes "show" ∷ t) request) (append_assoc known (codes "--" ∷ take k words) (first.word ∷ behind)) form)) in
+    let number : length front + 1 ≡ length sources + 2 + 1 + k =
+    omega (arith, parts.1, length-append known (codes "--" ∷ take k words), length-map sources source_word) in
+    let whole : front ++ first.word ∷ drop (suc k) words ≡ codes "show" ∷ (known ++ codes "--" ∷ words) =
+    ap (λ t. codes "show" ∷ t) (append_assoc known (codes "--" ∷ take k words) (first.word ∷ drop (suc k) words)
+    ∙ ap (λ t. known ++ codes "--" ∷ t) (sym parts.0)) in
+    subst (λ t. IsWrongWord t (length sources + 2 + 1 + k)) whole (subst (IsWrongWord (front ++ first.word ∷ drop (suc k) words)) number wrong)
 
 -- what stands behind the first of some words
 abbrev behind : {X : Type 0} → List X → List X
@@ -212,41 +271,78 @@ module _ {X : Type 0} (text : X → Word) where
       let first_is : text first ≡ source_word source = sym (ap text is) ∙ spelled in
       rw first_is (wrong_more source (text other) (map text words) sound)
 
-  -- the number of a wrong word is small
-  pub few_words : (words : List X) (k : ℕ) → IsFirstOther (map text (behind (behind words))) k → length words * 24 < 9223372036854775808 → k + 4 < 18446744073709551616
-  few_words words k first few =
-      let within : k < length (map text (behind (behind words))) = slice_get_within _ k first.word first.there in
-      omega (arith, within, few, length-map (behind (behind words)) text, shorter words, shorter (behind words))
-    where
-      shorter : (xs : List X) → length (behind xs) ≤ length xs
-      shorter xs = omega (arith, length-take (length xs - 1) (drop 1 xs), length-drop 1 xs)
+  -- ---- the words of `show` behind its name, which begin with sources
 
-  module _ (words : List X) (word : X) (h : 1 ≤ length words) (is : word ≡ get_or words 0 word) (source : Source) (spelled : text word ≡ source_word source) (sound : IsSource source) where
-    sourced_are : map text words ≡ source_word source ∷ map text (behind words)
-    sourced_are = headed words word h is ∙ ap (λ w. w ∷ map text (behind words)) spelled
+  module _ (words rest : List X) (sources : List Source) (parted : map text words ≡ map source_word sources ++ map text rest) (sound : AllByRecursion IsSource sources) where
+    counted : length words ≡ length sources + length rest
+    counted =
+        omega (arith, length-map words text, ap (λ t. length t) parted, length-append (map source_word sources) (map text rest), length-map sources source_word, length-map rest text)
 
-    pub wrong_in_unmarked : length (behind words) < 1 → IsWrongWord (codes "show" ∷ map text words) 3
+    -- the number of a wrong word is small
+    pub few_sources : length words * 24 < 9223372036854775808 → length sources + 2 < 18446744073709551616
+    few_sources few = omega (arith, few, counted)
+
+    pub few_words : (k : ℕ) → IsFirstOther (map text (behind rest)) k → length words * 24 < 9223372036854775808
+        → length sources + 2 + 1 + k < 18446744073709551616
+    few_words k first few =
+        let within : k < length (map text (behind rest)) = slice_get_within _ k first.word first.there in
+        omega (arith, within, few, counted, length-map (behind rest) text, length-take (length rest - 1) (drop 1 rest), length-drop 1 rest)
+
+    pub wrong_in_unmarked : length rest < 1 → IsWrongWord (codes "show" ∷ map text words) (length sources + 2)
     wrong_in_unmarked none =
-        let all : map text words ≡ source_word source ∷ [] = sourced_are ∙ ap (λ t. source_word source ∷ t) (nothing (behind words) none) in
-        subst (λ t. IsWrongWord (codes "show" ∷ t) 3) (sym all) (wrong_unmarked source sound)
+        let all : map text words ≡ map source_word sources =
+        parted ∙ ap (λ t. map source_word sources ++ t) (nothing rest none) ∙ append-nil (map source_word sources) in
+        subst (λ t. IsWrongWord (codes "show" ∷ t) (length sources + 2)) (sym all) (wrong_unmarked sources sound)
 
-    module _ (mark : X) (some : 1 ≤ length (behind words)) (is_mark : mark ≡ get_or (behind words) 0 mark) where
-      marked_are : map text words ≡ source_word source ∷ text mark ∷ map text (behind (behind words))
-      marked_are = sourced_are ∙ ap (λ t. source_word source ∷ t) (headed (behind words) mark some is_mark)
+    module _ (mark : X) (there : 1 ≤ length rest) (is_mark : mark ≡ get_or rest 0 mark) where
+      marked_are : map text words ≡ map source_word sources ++ text mark ∷ map text (behind rest)
+      marked_are = parted ∙ ap (λ t. map source_word sources ++ t) (headed rest mark there is_mark)
 
-      pub wrong_in_mark : text mark ≢ codes "--" → IsWrongWord (codes "show" ∷ map text words) 3
-      wrong_in_mark differs = subst (λ t. IsWrongWord (codes "show" ∷ t) 3) (sym marked_are) (wrong_mark source (text mark) _ sound differs)
+      -- a word that is no source and no mark, or stands where the first source should
+      module _ (other : (word : Word) (more : List Word) → map text rest ≡ word ∷ more → (source : Source) → IsSource source → word ≢ source_word source) where
+        other_mark : (source : Source) → IsSource source → text mark ≢ source_word source
+        other_mark = other (text mark) (map text (behind rest)) (headed rest mark there is_mark)
 
-      pub wrong_in_named : text mark ≡ codes "--" → (k : ℕ) → IsFirstOther (map text (behind (behind words))) k → IsWrongWord (codes "show" ∷ map text words) (k + 4)
-      wrong_in_named same k first =
-          let whole = marked_are ∙ ap (λ m. source_word source ∷ m ∷ map text (behind (behind words))) same in
-          subst (λ t. IsWrongWord (codes "show" ∷ t) (k + 4)) (sym whole) (wrong_named source _ k sound first)
+        pub wrong_in_mark : text mark ≢ codes "--" → IsWrongWord (codes "show" ∷ map text words) (length sources + 2)
+        wrong_in_mark differs =
+            subst (λ t. IsWrongWord (codes "show" ∷ t) (length sources + 2)) (sym marked_are)
+            (wrong_mark sources (text mark) (map text (behind rest)) sound other_mark differs)
 
-      pub form_in_named : text mark ≡ codes "--" → (names : List Name) → map text (behind (behind words)) ≡ map name_word names → AllByRecursion IsName names
-          → IsForm (codes "show" ∷ map text words) (show source names)
-      form_in_named same names spelled_names sound_names =
-          let whole = marked_are ∙ (λ i. source_word source ∷ same i ∷ spelled_names i) in
-          (ap (λ t. codes "show" ∷ t) whole, sound, sound_names)
+        pub wrong_in_first : length sources ≡ 0 → IsWrongWord (codes "show" ∷ map text words) (length sources + 2)
+        wrong_in_first none =
+            let bare : sources ≡ [] = empty sources none in
+            let whole : map text words ≡ text mark ∷ map text (behind rest) =
+            marked_are ∙ ap (λ (ss : List Source). map source_word ss ++ text mark ∷ map text (behind rest)) bare in
+            subst (λ n. IsWrongWord (codes "show" ∷ map text words) (n + 2)) (sym none)
+            (subst (λ t. IsWrongWord (codes "show" ∷ t) 2) (sym whole)
+            (wrong_source (codes "show") (begins_shown [] tt) (text mark) (map text (behind rest)) other_mark))
+          where
+            empty : (sources : List Source) → length sources ≡ 0 → sources ≡ []
+            empty [] e = refl
+            empty (source ∷ sources) e = absurd (omega (arith, e))
+
+      module _ (same : text mark ≡ codes "--") (any : sources ≢ []) where
+        whole_is : map text words ≡ map source_word sources ++ codes "--" ∷ map text (behind rest)
+        whole_is = marked_are ∙ ap (λ m. map source_word sources ++ m ∷ map text (behind rest)) same
+
+        pub wrong_in_named : (k : ℕ) → IsFirstOther (map text (behind rest)) k
+            → IsWrongWord (codes "show" ∷ map text words) (length sources + 2 + 1 + k)
+        wrong_in_named k first =
+            subst (λ t. IsWrongWord (codes "show" ∷ t) (length sources + 2 + 1 + k)) (sym whole_is)
+            (wrong_named sources _ k any sound first)
+
+        pub form_in_named : (names : List Name) → map text (behind rest) ≡ map name_word names → AllByRecursion IsName names
+            → IsForm (codes "show" ∷ map text words) (show sources names)
+        form_in_named names spelled_names sound_names = (
+          ap (λ t. codes "show" ∷ t) (whole_is ∙ ap (λ t. map source_word sources ++ codes "--" ∷ t) spelled_names),
+          any,
+          sound,
+          sound_names,
+        )
+
+-- some sources, where their number isn't zero
+pub any_of : (sources : List Source) (n : ℕ) → n ≡ length sources → n ≢ 0 → sources ≢ []
+any_of sources n counted some e = some (counted ∙ ap (λ ss. length ss) e)
 
 -- what the test of the mark has told
 pub test_false : (told : Bool) (word other : Word) → told ≡ not (pointwise nat_eq word other) → told ≡ false → word ≡ other

@@ -1,9 +1,11 @@
 -- The forms of the command line, and the number of the first wrong word.
-use Rattle.std.specs.Prelude.{◌≡◌, ℕ, ◌+◌, ◌<◌, ◌≤◌, List, [], ◌∷◌, ◌++◌, length, take, map, codes}
+use Rattle.std.specs.Prelude.{◌≡◌, ◌≢◌, ℕ, ◌+◌, ◌<◌, ◌≤◌, List, [], ◌∷◌, ◌++◌, length, take, map, codes}
 use Rattle.std.specs.String.{string_bytes}
 use Rattle.std.specs.List.{AllByRecursion}
-use Rattle.command_words.specs.Texts.{Word, Source, source_word, IsSource, Name, name_word, IsName, divided_name}
+use Rattle.command_words.specs.Texts.{Word, Source, source_word, IsSource, divided_source}
+use Rattle.command_words.specs.Texts.{Name, name_word, IsName, divided_name}
 use Rattle.command_words.specs.declared.sources.SourceWord.{SourceWord}
+use Rattle.command_words.specs.declared.sources.SourceWords.{SourceWords}
 use Rattle.command_words.specs.declared.names.NameWord.{NameWord}
 use Rattle.command_words.specs.declared.names.NameWords.{NameWords}
 use Rattle.command_words.specs.declared.commands.Command.{Command}
@@ -12,14 +14,14 @@ use Rattle.command_words.specs.declared.commands.Command.TheVariants.{List as Li
 -- what a command line asks for
 pub data Request : Type 0 where
   list : Source → Request
-  show : Source → List Name → Request
+  show : List Source → List Name → Request
 
 -- The forms of the command line, one case for each command.
 abbrev pub IsForm : List Word → Request → Type 0
 IsForm words (list source) = (words ≡ codes "list" ∷ source_word source ∷ []) × IsSource source
-IsForm words (show source names) =
-    (words ≡ codes "show" ∷ source_word source ∷ codes "--" ∷ map name_word names) × IsSource source
-    × AllByRecursion IsName names
+IsForm words (show sources names) =
+    (words ≡ codes "show" ∷ (map source_word sources ++ codes "--" ∷ map name_word names)) × (sources ≢ [])
+    × AllByRecursion IsSource sources × AllByRecursion IsName names
 
 -- a form begins with these words
 abbrev pub Begins : List Word → Type 0
@@ -43,6 +45,10 @@ pub record IsFirstWrong (words : List Word) (k : ℕ) : Type 0 where
 abbrev pub source_of : SourceWord → Source
 source_of word = record { path = word.path.now; file = word.file.now }
 
+-- the sources that words name, in their order
+abbrev pub sources_of : SourceWords → List Source
+sources_of sources = map divided_source (map string_bytes sources.words.now)
+
 -- the name that a word names
 abbrev pub name_of : NameWord → Name
 name_of word = record { path = word.path.now; name = word.name.now }
@@ -54,9 +60,9 @@ names_of names = map divided_name (map string_bytes names.words.now)
 -- what a command asks for
 abbrev pub request_of : Command → Request
 request_of (ListCommand source) = list (source_of source)
-request_of (ShowCommand source names) = show (source_of source) (names_of names)
+request_of (ShowCommand sources names) = show (sources_of sources) (names_of names)
 
--- the label of its source is the word that spells it
+-- the label of its one source is the word that spells it
 abbrev pub IsLabelled : Command → Type 0
 IsLabelled (ListCommand source) = source.label.now ≡ source_word (source_of source)
-IsLabelled (ShowCommand source names) = source.label.now ≡ source_word (source_of source)
+IsLabelled (ShowCommand sources names) = Unit {0}

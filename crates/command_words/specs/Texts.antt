@@ -1,5 +1,6 @@
 -- What the words of the command line spell.
-use Rattle.std.specs.Prelude.{◌≡◌, ◌≢◌, ℕ, ◌==◌, List, [], ◌++◌, take, codes, slice_index, slice_get, EachIndex, Some}
+use Rattle.std.specs.Prelude.{◌≡◌, ◌≢◌, ℕ, ◌≤◌, ◌==◌, List, [], ◌++◌, length, take, drop, codes, slice_index}
+use Rattle.std.specs.Prelude.{slice_get, EachIndex, Some}
 use Rattle.std.specs.List.{All, before_first, after_first}
 
 -- a word, as its bytes
@@ -36,6 +37,29 @@ pub record IsSource (source : Source) : Type 0 where
   pub path : IsPath source.path
   pub file : IsFile source.file
 
+-- a word, divided at the first `=` behind its `f:`
+abbrev pub divided_source : Word → Source
+divided_source word = record {
+  path = before_first (λ b. b == 61) (drop 2 word);
+  file = after_first (λ b. b == 61) (drop 2 word);
+}
+
+-- the word spells what it is divided into
+pub record Spells {N : Type 0} (spell : N → Word) (Is : N → Type 0) (divide : Word → N) (word : Word) : Type 0 where
+  pub spelled : word ≡ spell (divide word)
+  pub sound : Is (divide word)
+
+-- the word names a source
+abbrev pub IsSourceWord : Word → Type 0
+IsSourceWord word = Spells source_word IsSource divided_source word
+
+-- so many words name sources, and no more in a row
+pub record AreLeading (words : List Word) (count : ℕ) : Type 0 where
+  pub within : count ≤ length words
+  pub sources : All IsSourceWord (take count words)
+  pub other : (word : Word) → slice_get words count ≡ Some word → (source : Source) → IsSource source
+      → word ≢ source_word source
+
 -- a name, and the path of its package
 pub record Name : Type 0 where
   pub path : List ℕ
@@ -55,9 +79,8 @@ abbrev pub divided_name : Word → Name
 divided_name word = record { path = before_first (λ b. b == 58) word; name = after_first (λ b. b == 58) word }
 
 -- the word names a name
-pub record IsNameWord (word : Word) : Type 0 where
-  pub spelled : word ≡ name_word (divided_name word)
-  pub sound : IsName (divided_name word)
+abbrev pub IsNameWord : Word → Type 0
+IsNameWord word = Spells name_word IsName divided_name word
 
 -- word k, counted from 0, is the first that names no name
 pub record IsFirstOther (words : List Word) (k : ℕ) : Type 0 where

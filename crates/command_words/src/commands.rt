@@ -3,16 +3,16 @@ ghost use Rattle.std.specs.String.{string_bytes};
 ghost use Rattle.command_words.specs.Forms.{IsForm, IsWrongWord, IsFirstWrong, IsLabelled, request_of};
 
 use crate::names::NameWords;
-use crate::sources::SourceWord;
+use crate::sources::{SourceWord, SourceWords};
 
 /// What the words of a command line ask for.
 #[derive(Debug, Drop, Clone, Copy, PartialEq, Eq)]
 pub enum Command<'a> {
     /// To list the names of a source.
     List(SourceWord<'a>),
-    /// To show the declarations of names of a source.
+    /// To show the declarations of names of some sources.
     Show {
-        source: SourceWord<'a>,
+        sources: SourceWords<'a>,
         names: NameWords<'a>,
     },
 }
@@ -70,26 +70,25 @@ fn read_list(rest: &[String]) -> Result<Command<'_>, WrongWord>
     Ok(Command::List(source))
 }
 
-// Reads the words after the name of `show`: one source, `--` and names.
+// Reads the words after the name of `show`: sources, `--` and names.
 fn read_show(rest: &[String]) -> Result<Command<'_>, WrongWord>
     ensures found { IfOk result (λ command. IsForm (codes "show" ∷ map string_bytes rest.now) (request_of command)) }
     ensures labelled { IfOk result IsLabelled }
     ensures wrong { IfErr result (λ wrong. IsWrongWord (codes "show" ∷ map string_bytes rest.now) wrong.number) }
 {
-    let [word, after @ ..] = rest else {
-        return Err(WrongWord { number: 2 });
-    };
-    let Some(source) = SourceWord::of(word.as_str()) else {
-        return Err(WrongWord { number: 2 });
-    };
+    let (sources, after) = SourceWords::leading(rest);
+    let count = sources.len();
+    let number = count + 2;
     let [mark, words @ ..] = after else {
-        return Err(WrongWord { number: 3 });
+        return Err(WrongWord { number });
     };
-    if mark.as_str() != "--" {
-        return Err(WrongWord { number: 3 });
+    if count == 0 || mark.as_str() != "--" {
+        return Err(WrongWord { number });
     }
     match NameWords::of(words) {
-        Ok(names) => Ok(Command::Show { source, names }),
-        Err(k) => Err(WrongWord { number: k + 4 }),
+        Ok(names) => Ok(Command::Show { sources, names }),
+        Err(k) => Err(WrongWord {
+            number: number + 1 + k,
+        }),
     }
 }

@@ -10,5 +10,5 @@ mod texts;
 pub use commands::{Command, WrongWord, first_wrong_word, read_command};
 pub use laws::words_have_one_reading;
 pub use names::{NameWord, NameWords};
-pub use sources::SourceWord;
+pub use sources::{SourceWord, SourceWords};
 pub use texts::{is_file, is_path};

@@ -1,5 +1,8 @@
-ghost use Rattle.std.specs.Prelude.{◌≡◌, ◌≢◌, IfSome, IfNone};
-ghost use Rattle.command_words.specs.Texts.{Source, source_word, IsSource};
+ghost use Rattle.std.specs.Prelude.{◌≡◌, ◌≢◌, ◌<◌, ◌++◌, IfSome, IfNone, IsSome, List, map, length, option_map};
+ghost use Rattle.std.specs.Prelude.{◌∷◌, slice_get};
+ghost use Rattle.std.specs.List.{All, AllByRecursion};
+ghost use Rattle.std.specs.String.{string_bytes};
+ghost use Rattle.command_words.specs.Texts.{Word, Source, source_word, IsSource, IsSourceWord, AreLeading};
 
 use crate::texts::{is_file, is_path};
 
@@ -34,4 +37,58 @@ impl<'a> SourceWord<'a> {
             None
         }
     }
+}
+
+/// Sources, `f:PATH=FILE` each, as the words of a command line that name them.
+#[derive(Debug, Drop, Clone, Copy, PartialEq, Eq)]
+pub struct SourceWords<'a> {
+    words: &'a [String],
+    ghost are_sources: { All IsSourceWord (map string_bytes words.now) },
+}
+
+impl<'a> SourceWords<'a> {
+    ghost use Rattle.command_words.specs.Forms.{source_of, sources_of};
+
+    /// The sources that the first of some words name, up to the first word that names none, and the words from that
+    /// one on.
+    pub fn leading(words: &'a [String]) -> (SourceWords<'a>, &'a [String])
+        ensures parted { map string_bytes words.now
+            ≡ map source_word (sources_of result.0) ++ map string_bytes result.1.now }
+        ensures sound { AllByRecursion IsSource (sources_of result.0) }
+        ensures other { (word : Word) (more : List Word) → map string_bytes result.1.now ≡ word ∷ more
+            → (source : Source) → IsSource source → word ≢ source_word source }
+    {
+        let (words, rest) = words.split_at(leading_count(words));
+        (SourceWords { words }, rest)
+    }
+
+    /// How many sources there are.
+    pub fn len(&self) -> usize
+        ensures { result ≡ length (sources_of self.now) }
+    {
+        self.words.len()
+    }
+
+    /// The source at a place, counted from 0.
+    pub fn get(&self, k: usize) -> Option<SourceWord<'a>>
+        ensures exact { option_map source_of result ≡ slice_get (sources_of self.now) k }
+        ensures label { IfSome result (λ source. source.label.now ≡ source_word (source_of source)) }
+        ensures sound { IfSome result (λ source. IsSource (source_of source)) }
+        ensures there { k < length (sources_of self.now) → IsSome result }
+    {
+        let word = self.words.get(k)?;
+        SourceWord::of(word.as_str())
+    }
+}
+
+/// How many words name sources, up to the first that names none.
+fn leading_count(words: &[String]) -> usize
+    ensures { AreLeading (map string_bytes words.now) result }
+{
+    for (k, word) in words.iter().enumerate() {
+        if SourceWord::of(word.as_str()).is_none() {
+            return k;
+        }
+    }
+    words.len()
 }

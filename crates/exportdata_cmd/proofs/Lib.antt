@@ -5,3 +5,5 @@ pub mod ShowingLemmas
 pub mod DueLemmas
 pub mod RunningLemmas
 pub mod CarriedLemmas
+pub mod OpeningLemmas
+pub mod CollectingLemmas

@@ -1,214 +1,148 @@
--- What the names are that were looked up.
-use Rattle.std.proofs.Common.{◌≡◌, ◌⊎◌, ℕ, zero, suc, ◌≤◌, List, [], ◌∷◌, ◌++◌, length, map, take, drop, Some, Result}
-use Rattle.std.proofs.Common.{Ok, Err, false, slice_get, inl, inr, refl, sym, ◌∙◌, ap, subst, arith}
-use Rattle.std.specs.Prelude.{if◌then◌else◌}
-use Rattle.std.specs.Result.{is_err, is_ok}
-use Rattle.std.specs.List.{AllByRecursion, Contains, flat_map}
+-- What was found for names, and what stands behind them.
+use Rattle.std.proofs.Common.{◌≡◌, ◌⊎◌, inl, inr, ℕ, zero, suc, ◌≤◌, Bool, true, false, cond, List, [], ◌∷◌, ◌++◌, length, drop, Option, Some}
+use Rattle.std.proofs.Common.{None, slice_get, refl, sym, ◌∙◌, ap, arith}
+use Rattle.std.specs.List.{AllByRecursion, flat_map}
 use Rattle.std.proofs.lemmas.List.{drop_all}
-use Rattle.std.proofs.lemmas.List.Elements.{Contains-append_left, Contains-append_right, Contains-get_or}
-use Rattle.std.proofs.lemmas.List.Concat.{flat_map_single}
 use Rattle.wire_bytes.specs.declared.fault.ByteFault.{ByteFault}
-use Rattle.command_words.specs.Texts.{Name}
-use Rattle.name_index.specs.FullFile.{FullFile}
-use Rattle.session.specs.Answers.{Outcome, HasOutcome}
-use Rattle.session.specs.Asked.{read_for}
+use Rattle.go_values.specs.declared.qualified.QName.{QName}
+use Rattle.type_terms.specs.declared.descriptors.Node.{Node}
+use Rattle.type_terms.specs.Declarations.{decl_of}
+use Rattle.environments.specs.Environments.{Entry, declared, damaged}
+use Rattle.asked_names.specs.Finding.{Entries, IsFound, AreFound}
+use Rattle.asked_names.specs.Counting.{is_declared, is_here}
+use Rattle.asked_names.specs.declared.finding.Found.{Found}
+use Rattle.asked_names.specs.declared.finding.Found.TheVariants.{Unknown, Damaged, Declared}
 use Rattle.exportdata_cmd.specs.Printed.{Line}
-use Rattle.exportdata_cmd.specs.Showing.{Answer, IsAnswer, answer_text, answer_texts, shown_status}
-use Rattle.exportdata_cmd.specs.LookedUp.{answer_of, answered, declared_by, IsKnown, IsLookedUp, AreLookedUp, OnlyRead}
+use Rattle.exportdata_cmd.specs.Showing.{answer_text, answer_texts, shown_status}
+use Rattle.exportdata_cmd.specs.LookedUp.{entry_found, found_texts, found_status, IsInside}
+use Rattle.exportdata_cmd.specs.declared.exits.Status.{Status}
 use Rattle.exportdata_cmd.specs.declared.exits.Status.TheVariants.{Done, Refused}
-use Rattle.exportdata_cmd.specs.declared.showing.LookedUp.{LookedUp}
-use Rattle.exportdata_cmd.specs.declared.showing.LookedUp.TheVariants.{Unknown, Damaged, Declared}
-use Rattle.exportdata_cmd.proofs.PuttingLemmas.{one_more}
 
-first_is : {X : Type 0} (x : X) (xs : List X) → Contains (x ∷ xs) x
-first_is x xs = Contains-get_or (x ∷ xs) 0 x (omega arith)
+-- ---- names and what was found for them, as pairs
 
--- a call whose result is no error
-pub where_no_error : {T E X : Type 0} (r : Result T E) (x y : X) → is_err r ≡ false → (if is_ok r then x else y) ≡ x
-where_no_error (Ok value) x y none = refl
-where_no_error (Err e) x y none = absurd cc
+abbrev pub pairs : List QName → List Found → List (QName × Found)
+pairs [] found = []
+pairs (q ∷ names) [] = []
+pairs (q ∷ names) (one ∷ found) = (q, one) ∷ pairs names found
 
--- ---- pairs
+abbrev pub lines_of_pair : List Node → QName × Found → List Line
+lines_of_pair nodes x = answer_text x.0 (entry_found nodes x.1) ∷ []
 
-abbrev pub lines_of_answer : Name × Answer → List Line
-lines_of_answer x = answer_text x.0 x.1 ∷ []
+pub texts_are : (nodes : List Node) (names : List QName) (found : List Found)
+    → found_texts nodes names found ≡ flat_map (lines_of_pair nodes) (pairs names found)
+texts_are nodes [] found = refl
+texts_are nodes (q ∷ names) [] = refl
+texts_are nodes (q ∷ names) (one ∷ found) =
+    ap (λ ls. answer_text q (entry_found nodes one) ∷ ls) (texts_are nodes names found)
 
-pub texts_are : (answers : List (Name × Answer)) → answer_texts answers ≡ flat_map lines_of_answer answers
-texts_are answers = sym (flat_map_single (λ x. answer_text x.0 x.1) answers)
+pub pair_there : (names : List QName) (found : List Found) (k : ℕ) (q : QName) (one : Found)
+    → slice_get names k ≡ Some q → slice_get found k ≡ Some one
+    → slice_get (pairs names found) k ≡ Some (q, one)
+pair_there [] found k q one is here = absurd cc
+pair_there (n ∷ names) [] k q one is here = absurd cc
+pair_there (n ∷ names) (f ∷ found) zero q one is here =
+    let same : n ≡ q = cc in
+    let same_found : f ≡ one = cc in
+    λ i. Some (same i, same_found i)
+pair_there (n ∷ names) (f ∷ found) (suc k) q one is here = pair_there names found k q one is here
 
-module _ (read : List (ℕ × Outcome)) where
-  pub found_pair : (names : List Name) (answers : List LookedUp) (k : ℕ) (name : Name) (one : LookedUp)
-      → slice_get names k ≡ Some name → slice_get answers k ≡ Some one
-      → slice_get (answered read names answers) k ≡ Some (name, answer_of read one)
-  found_pair [] answers k name one is here = absurd cc
-  found_pair (n ∷ names) [] k name one is here = absurd cc
-  found_pair (n ∷ names) (a ∷ answers) zero name one is here =
-      let same : n ≡ name = cc in
-      let same_answer : a ≡ one = cc in
-      λ i. Some (same i, answer_of read (same_answer i))
-  found_pair (n ∷ names) (a ∷ answers) (suc k) name one is here = found_pair names answers k name one is here
+pub pair_count : (names : List QName) (found : List Found) → length found ≡ length names
+    → length (pairs names found) ≡ length found
+pair_count [] [] same = refl
+pair_count [] (one ∷ found) same = absurd (omega (arith, same))
+pair_count (q ∷ names) [] same = refl
+pair_count (q ∷ names) (one ∷ found) same = omega (arith, pair_count names found (omega (arith, same)))
 
-  pub pair_count : (names : List Name) (answers : List LookedUp) → length answers ≡ length names
-      → length (answered read names answers) ≡ length answers
-  pair_count [] [] same = refl
-  pair_count [] (a ∷ answers) same = absurd (omega (arith, same))
-  pair_count (n ∷ names) [] same = refl
-  pair_count (n ∷ names) (a ∷ answers) same = omega (arith, pair_count names answers (omega (arith, same)))
+pub inside_there : (nodes : List Node) (found : List Found) (k : ℕ) (one : Found)
+    → AllByRecursion (IsInside nodes) found → slice_get found k ≡ Some one
+    → IsInside nodes one
+inside_there nodes [] k one all here = absurd cc
+inside_there nodes (f ∷ found) zero one all here = let same : f ≡ one = cc in subst_inside f one same all.0
+  where
+    subst_inside : (a b : Found) → a ≡ b → IsInside nodes a → IsInside nodes b
+    subst_inside a b e is = rw (← e) is
+inside_there nodes (f ∷ found) (suc k) one all here = inside_there nodes found k one all.1 here
 
 -- ---- the status
 
-module _ (read : List (ℕ × Outcome)) where
-  passes : (number : ℕ) → IsKnown read (Declared number) → (name : Name) (rest : List (Name × Answer))
-      → shown_status ((name, answer_of read (Declared number)) ∷ rest) ≡ shown_status rest
-  passes number (decl, is) name rest = ap (λ o. shown_status ((name, declared_by o) ∷ rest)) is
+passes_one : (one : Found) → is_here one ≡ true → (found : List Found) → found_status (one ∷ found) ≡ found_status found
+passes_one one here found = ap (λ b. cond b (found_status found) Refused) here
 
-  -- what is declared says nothing against it
-  pub goes_on_at : (names : List Name) (answers : List LookedUp) (k number : ℕ) → length answers ≡ length names
-      → AllByRecursion (IsKnown read) answers → slice_get answers k ≡ Some (Declared number)
-      → shown_status (answered read (drop k names) (drop k answers)) ≡ shown_status (answered read (drop (suc k) names) (drop (suc k) answers))
-  goes_on_at names [] k number same known here = absurd cc
-  goes_on_at [] (a ∷ answers) k number same known here = absurd (omega (arith, same))
-  goes_on_at (n ∷ names) (a ∷ answers) zero number same known here =
-      let is : a ≡ Declared number = cc in
-      ap (λ o. shown_status ((n, answer_of read o) ∷ answered read names answers)) is
-      ∙ passes number (subst (IsKnown read) is known.0) n (answered read names answers)
-  goes_on_at (n ∷ names) (a ∷ answers) (suc k) number same known here =
-      goes_on_at names answers k number (omega (arith, same)) known.1 here
+stops_one : (one : Found) → is_here one ≡ false → (found : List Found) → found_status (one ∷ found) ≡ Refused
+stops_one one here found = ap (λ b. cond b (found_status found) Refused) here
 
-  -- what isn't does
-  unknown_at : (names : List Name) (answers : List LookedUp) (k : ℕ) → length answers ≡ length names
-      → slice_get answers k ≡ Some Unknown
-      → Refused ≡ shown_status (answered read (drop k names) (drop k answers))
-  unknown_at names [] k same here = absurd cc
-  unknown_at [] (a ∷ answers) k same here = absurd (omega (arith, same))
-  unknown_at (n ∷ names) (a ∷ answers) zero same here =
-      let is : a ≡ Unknown = cc in
-      ap (λ o. shown_status ((n, answer_of read o) ∷ answered read names answers)) (sym is)
-  unknown_at (n ∷ names) (a ∷ answers) (suc k) same here = unknown_at names answers k (omega (arith, same)) here
+pub passes_at : (found : List Found) (k : ℕ) (one : Found) → slice_get found k ≡ Some one → is_here one ≡ true
+    → found_status (drop k found) ≡ found_status (drop (suc k) found)
+passes_at [] k one there here = absurd cc
+passes_at (f ∷ found) zero one there here =
+    let same : f ≡ one = cc in passes_one f (ap is_here same ∙ here) found
+passes_at (f ∷ found) (suc k) one there here = passes_at found k one there here
 
-  damaged_at : (names : List Name) (answers : List LookedUp) (k : ℕ) (fault : ByteFault)
-      → length answers ≡ length names → slice_get answers k ≡ Some (Damaged fault)
-      → Refused ≡ shown_status (answered read (drop k names) (drop k answers))
-  damaged_at names [] k fault same here = absurd cc
-  damaged_at [] (a ∷ answers) k fault same here = absurd (omega (arith, same))
-  damaged_at (n ∷ names) (a ∷ answers) zero fault same here =
-      let is : a ≡ Damaged fault = cc in
-      ap (λ o. shown_status ((n, answer_of read o) ∷ answered read names answers)) (sym is)
-  damaged_at (n ∷ names) (a ∷ answers) (suc k) fault same here =
-      damaged_at names answers k fault (omega (arith, same)) here
+refused_at : (found : List Found) (k : ℕ) (one : Found) → slice_get found k ≡ Some one → is_here one ≡ false
+    → Refused ≡ found_status (drop k found)
+refused_at [] k one there here = absurd cc
+refused_at (f ∷ found) zero one there here =
+    let same : f ≡ one = cc in sym (stops_one f (ap is_here same ∙ here) found)
+refused_at (f ∷ found) (suc k) one there here = refused_at found k one there here
 
-  pub refused_at : (names : List Name) (answers : List LookedUp) (k : ℕ) (one : LookedUp)
-      → length answers ≡ length names → slice_get answers k ≡ Some one
-      → (one ≡ Unknown) ⊎ ((fault : ByteFault) × (one ≡ Damaged fault))
-      → Refused ≡ shown_status (answered read (drop k names) (drop k answers))
-  refused_at names answers k one same here (inl is) =
-      unknown_at names answers k same (here ∙ ap (λ (x : LookedUp). Some x) is)
-  refused_at names answers k one same here (inr (fault, is)) =
-      damaged_at names answers k fault same (here ∙ ap (λ (x : LookedUp). Some x) is)
+pub refused_either : (found : List Found) (k : ℕ) (one : Found) → slice_get found k ≡ Some one
+    → (one ≡ Unknown) ⊎ ((fault : ByteFault) × (one ≡ Damaged fault))
+    → Refused ≡ found_status (drop k found)
+refused_either found k one there (inl is) = refused_at found k one there (ap is_here is)
+refused_either found k one there (inr (fault, is)) = refused_at found k one there (ap is_here is)
 
-  pub nothing_left : (names : List Name) (answers : List LookedUp) (k : ℕ) → length answers ≤ k
-      → shown_status (answered read (drop k names) (drop k answers)) ≡ Done
-  nothing_left names answers k all =
-      ap (λ xs. shown_status (answered read (drop k names) xs)) (drop_all k answers all) ∙ none (drop k names)
-    where
-      none : (names : List Name) → shown_status (answered read names []) ≡ Done
-      none [] = refl
-      none (n ∷ names) = refl
+pub nothing_left : (found : List Found) (k : ℕ) → length found ≤ k → found_status (drop k found) ≡ Done
+nothing_left found k all = ap found_status (drop_all k found all)
 
--- ---- looking up
+-- ---- what was found is what stands there
 
-module _ (file : FullFile) where
-  -- what was read for a name stays
-  grown : (old new : List (ℕ × Outcome))
-      → ((number : ℕ) (outcome : Outcome) → read_for old number ≡ Some outcome → read_for new number ≡ Some outcome)
-      → (name : Name) (one : LookedUp) → IsLookedUp file old name one → IsLookedUp file new name one
-  grown old new stays name Unknown is = is
-  grown old new stays name (Damaged fault) is = is
-  grown old new stays name (Declared number) (decl, gives, read) = (decl, gives, stays number (Ok decl) read)
+module _ (nodes : List Node) (entries : Entries) where
+  text_is : (q : QName) (one : Found) (entry : Option Entry) → IsFound nodes entry one
+      → answer_text q (entry_found nodes one) ≡ answer_text q entry
+  text_is q Unknown entry is = ap (answer_text q) (sym is)
+  text_is q (Damaged fault) entry (read, is) = ap (answer_text q) (sym is)
+  text_is q (Declared node) entry (is, inside) = ap (answer_text q) (sym is)
 
-  all_grown : (old new : List (ℕ × Outcome))
-      → ((number : ℕ) (outcome : Outcome) → read_for old number ≡ Some outcome → read_for new number ≡ Some outcome)
-      → (names : List Name) (answers : List LookedUp) → AreLookedUp file old names answers
-      → AreLookedUp file new names answers
-  all_grown old new stays [] [] are = tt
-  all_grown old new stays [] (a ∷ answers) are = absurd are
-  all_grown old new stays (n ∷ names) [] are = absurd are
-  all_grown old new stays (n ∷ names) (a ∷ answers) are =
-      (grown old new stays n a are.0, all_grown old new stays names answers are.1)
+  here_is : (one : Found) (entry : Option Entry) → IsFound nodes entry one → is_here one ≡ is_declared entry
+  here_is Unknown entry is = ap is_declared (sym is)
+  here_is (Damaged fault) entry (read, is) = ap is_declared (sym is)
+  here_is (Declared node) entry (is, inside) = ap is_declared (sym is)
 
-  one_looked_up : (read : List (ℕ
-      × Outcome)) (names : List Name) (answers : List LookedUp) (name : Name) (one : LookedUp)
-      → AreLookedUp file read names answers → IsLookedUp file read name one
-      → AreLookedUp file read (names ++ name ∷ []) (answers ++ one ∷ [])
-  one_looked_up read [] [] name one are is = (is, tt)
-  one_looked_up read [] (a ∷ answers) name one are is = absurd are
-  one_looked_up read (n ∷ names) [] name one are is = absurd are
-  one_looked_up read (n ∷ names) (a ∷ answers) name one are is =
-      (are.0, one_looked_up read names answers name one are.1 is)
+  inside_one : (one : Found) (entry : Option Entry) → IsFound nodes entry one → IsInside nodes one
+  inside_one Unknown entry is = tt
+  inside_one (Damaged fault) entry is = tt
+  inside_one (Declared node) entry is = is.1
 
-  -- the names before a place, and the one at it
-  pub looks_on : (old new : List (ℕ
-      × Outcome)) (names : List Name) (k : ℕ) (name : Name) (answers : List LookedUp) (one : LookedUp)
-      → slice_get names k ≡ Some name
-      → ((number : ℕ) (outcome : Outcome) → read_for old number ≡ Some outcome → read_for new number ≡ Some outcome)
-      → AreLookedUp file old (take k names) answers → IsLookedUp file new name one
-      → AreLookedUp file new (take (suc k) names) (answers ++ one ∷ [])
-  looks_on old new names k name answers one here stays are is =
-      rw (one_more names k name here) (one_looked_up new (take k names) answers name one (all_grown old new stays (take k names) answers are) is)
+  pub as_many : (names : List QName) (found : List Found) → AreFound nodes entries names found
+      → length found ≡ length names
+  as_many [] [] are = refl
+  as_many [] (one ∷ found) are = absurd are
+  as_many (q ∷ names) [] are = absurd are
+  as_many (q ∷ names) (one ∷ found) are = omega (arith, as_many names found are.1)
 
-  pub reads_on : (old new : List (ℕ × Outcome)) (names : List Name) (k : ℕ) (name : Name)
-      → slice_get names k ≡ Some name
-      → ((number : ℕ) (outcome : Outcome) → read_for new number ≡ Some outcome → (read_for old number ≡ Some outcome)
-      ⊎ HasOutcome file name.path name.name number outcome)
-      → OnlyRead file old (take k names) → OnlyRead file new (take (suc k) names)
-  reads_on old new names k name here only before number outcome is =
-      elim (only number outcome is) as (λ _. (one : Name) × Contains (take (suc k) names) one
-      × HasOutcome file one.path one.name number outcome) [
-        | inl was ↦
-            let b = before number outcome was in
-            (b.0, rw (one_more names k name here) (Contains-append_left (take k names) (name ∷ []) b.0 b.1), b.2)
-        | inr gives ↦ (name, rw (one_more names k name here) (Contains-append_right (take k names) (name ∷ []) name (first_is name [])), gives)
-      ]
+  pub all_inside : (names : List QName) (found : List Found) → AreFound nodes entries names found
+      → AllByRecursion (IsInside nodes) found
+  all_inside [] [] are = tt
+  all_inside [] (one ∷ found) are = absurd are
+  all_inside (q ∷ names) [] are = absurd are
+  all_inside (q ∷ names) (one ∷ found) are = (inside_one one (entries q) are.0, all_inside names found are.1)
 
-  pub nothing_read : OnlyRead file [] []
-  nothing_read number outcome is = absurd cc
+  pub texts_shown : (names : List QName) (found : List Found) → AreFound nodes entries names found
+      → found_texts nodes names found ≡ answer_texts entries names
+  texts_shown [] [] are = refl
+  texts_shown [] (one ∷ found) are = absurd are
+  texts_shown (q ∷ names) [] are = absurd are
+  texts_shown (q ∷ names) (one ∷ found) are =
+      let first = text_is q one (entries q) are.0 in
+      let others = texts_shown names found are.1 in
+      λ i. first i ∷ others i
 
-  -- ---- what was looked up is what the names are
-
-  right_one : (read : List (ℕ × Outcome)) (name : Name) (one : LookedUp) → IsLookedUp file read name one
-      → IsAnswer file name (answer_of read one)
-  right_one read name Unknown is = is
-  right_one read name (Damaged fault) is = is
-  right_one read name (Declared number) (decl, gives, read_is) =
-      subst (λ o. IsAnswer file name (declared_by o)) (sym read_is) (number, gives)
-
-  pub right : (read : List (ℕ × Outcome)) (names : List Name) (answers : List LookedUp)
-      → AreLookedUp file read names answers → AllByRecursion (λ x. IsAnswer file x.0 x.1) (answered read names answers)
-  right read [] answers are = tt
-  right read (n ∷ names) [] are = tt
-  right read (n ∷ names) (a ∷ answers) are = (right_one read n a are.0, right read names answers are.1)
-
-  pub for_names : (read : List (ℕ × Outcome)) (names : List Name) (answers : List LookedUp)
-      → AreLookedUp file read names answers → map (λ x. x.0) (answered read names answers) ≡ names
-  for_names read [] answers are = refl
-  for_names read (n ∷ names) [] are = absurd are
-  for_names read (n ∷ names) (a ∷ answers) are = ap (λ ns. n ∷ ns) (for_names read names answers are.1)
-
-  pub as_many : (read : List (ℕ × Outcome)) (names : List Name) (answers : List LookedUp)
-      → AreLookedUp file read names answers → length answers ≡ length names
-  as_many read [] [] are = refl
-  as_many read [] (a ∷ answers) are = absurd are
-  as_many read (n ∷ names) [] are = absurd are
-  as_many read (n ∷ names) (a ∷ answers) are = omega (arith, as_many read names answers are.1)
-
-  known_one : (read : List (ℕ × Outcome)) (name : Name) (one : LookedUp) → IsLookedUp file read name one
-      → IsKnown read one
-  known_one read name Unknown is = tt
-  known_one read name (Damaged fault) is = tt
-  known_one read name (Declared number) (decl, gives, read_is) = (decl, read_is)
-
-  pub known : (read : List (ℕ × Outcome)) (names : List Name) (answers : List LookedUp)
-      → AreLookedUp file read names answers → AllByRecursion (IsKnown read) answers
-  known read names [] are = tt
-  known read [] (a ∷ answers) are = absurd are
-  known read (n ∷ names) (a ∷ answers) are = (known_one read n a are.0, known read names answers are.1)
+  pub status_shown : (names : List QName) (found : List Found) → AreFound nodes entries names found
+      → found_status found ≡ shown_status entries names
+  status_shown [] [] are = refl
+  status_shown [] (one ∷ found) are = absurd are
+  status_shown (q ∷ names) [] are = absurd are
+  status_shown (q ∷ names) (one ∷ found) are =
+      let first = here_is one (entries q) are.0 in
+      let others = status_shown names found are.1 in
+      λ i. cond (first i) (others i) Refused

@@ -1,5 +1,6 @@
 -- What a run leaves: its status, and the lines on its sinks. The ends that come of one error line.
 use Rattle.std.specs.Prelude.{ℕ, List, [], ◌++◌, codes, decimal}
+use Rattle.std.specs.String.{string_bytes}
 use Rattle.wire_bytes.specs.FaultText.{fault_text}
 use Rattle.wire_bytes.specs.declared.fault.ByteFault.{ByteFault}
 use Rattle.decl_text.specs.Printed.{printed}
@@ -35,11 +36,15 @@ missing_end file = error_end Refused (codes "missing " ++ printed file)
 abbrev pub cannot_read_end : List ℕ → Ending
 cannot_read_end file = error_end Files (codes "cannot read " ++ printed file)
 
--- what the word of a source names has a fault
+-- the file with this label has a fault
 abbrev pub damaged_end : List ℕ → ByteFault → Ending
 damaged_end label fault = error_end Refused (printed label ++ codes ": " ++ fault_text fault)
 
--- a file is too long
+-- there are too many files
+abbrev pub limit_files_end : Ending
+limit_files_end = error_end Limit (codes "limit files")
+
+-- a file is too long, or all of them together are
 abbrev pub limit_bytes_end : Ending
 limit_bytes_end = error_end Limit (codes "limit bytes")
 
@@ -54,9 +59,10 @@ no_memory_end lines = record (error_end Memory (codes "no memory")) { output = l
 -- the end that an error line makes
 abbrev pub end_of : ErrorLine → Ending
 end_of (errors.WrongWord number) = wrong_word_end number
-end_of (errors.Missing file) = missing_end file.now
-end_of (errors.CannotRead file) = cannot_read_end file.now
-end_of (errors.Damaged label fault) = damaged_end label.now fault
+end_of (errors.Missing file) = missing_end (string_bytes file)
+end_of (errors.CannotRead file) = cannot_read_end (string_bytes file)
+end_of (errors.Damaged label fault) = damaged_end (string_bytes label) fault
+end_of errors.LimitFiles = limit_files_end
 end_of errors.LimitBytes = limit_bytes_end
 end_of errors.LimitNodes = limit_nodes_end
 end_of errors.NoMemory = no_memory_end []

@@ -1,53 +1,48 @@
--- What looking up the names that are asked for leaves.
-use Rattle.std.specs.Prelude.{◌≡◌, ℕ, List, [], ◌∷◌, Ok, Err, Option, Some, None}
-use Rattle.std.specs.List.{Contains}
-use Rattle.type_terms.specs.Declarations.{Decl}
-use Rattle.command_words.specs.Texts.{Name}
-use Rattle.name_index.specs.FullFile.{FullFile}
-use Rattle.session.specs.Answers.{Outcome, HasOutcome, IsUnknown}
-use Rattle.session.specs.Asked.{read_for}
-use Rattle.exportdata_cmd.specs.Showing.{Answer, unknown, damaged, declared}
-use Rattle.exportdata_cmd.specs.declared.showing.LookedUp.{LookedUp}
-use Rattle.exportdata_cmd.specs.declared.showing.LookedUp.TheVariants.{Unknown, Damaged, Declared}
+-- What was found for names, as it is shown.
+use Rattle.std.specs.Prelude.{◌≡◌, List, [], ◌∷◌, cond, length, Option, Some, None}
+use Rattle.go_values.specs.declared.qualified.QName.{QName}
+use Rattle.type_terms.specs.declared.descriptors.Node.{Node}
+use Rattle.type_terms.specs.Arenas.{AllBelow}
+use Rattle.type_terms.specs.Declarations.{decl_nodes, decl_of}
+use Rattle.environments.specs.Environments.{Entry, declared, damaged}
+use Rattle.session_files.specs.Sessions.{Opened, IsNameCount}
+use Rattle.session_env.specs.SessionEntries.{session_entries}
+use Rattle.asked_names.specs.Finding.{AreFound}
+use Rattle.asked_names.specs.Counting.{declared_among, IsCount, is_here}
+use Rattle.asked_names.specs.declared.finding.Found.{Found}
+use Rattle.asked_names.specs.declared.finding.Found.TheVariants.{Unknown, Damaged, Declared}
+use Rattle.exportdata_cmd.specs.Printed.{Line}
+use Rattle.exportdata_cmd.specs.Showing.{answer_text}
+use Rattle.exportdata_cmd.specs.declared.showing.Shown.{Shown}
+use Rattle.exportdata_cmd.specs.declared.exits.Status.{Status}
+use Rattle.exportdata_cmd.specs.declared.exits.Status.TheVariants.{Done, Refused}
 
--- the answer, by what was read
-abbrev pub declared_by : Option Outcome → Answer
-declared_by (Some (Ok decl)) = declared decl
-declared_by (Some (Err fault)) = damaged fault
-declared_by None = unknown
+-- what was found, as far as it is shown
+abbrev pub entry_found : List Node → Found → Option Entry
+entry_found nodes Unknown = None
+entry_found nodes (Damaged fault) = Some (damaged fault [])
+entry_found nodes (Declared node) = Some (declared (decl_of nodes node))
 
-abbrev pub answer_of : List (ℕ × Outcome) → LookedUp → Answer
-answer_of read Unknown = unknown
-answer_of read (Damaged fault) = damaged fault
-answer_of read (Declared number) = declared_by (read_for read number)
+-- what was found for each name, as a text
+abbrev pub found_texts : List Node → List QName → List Found → List Line
+found_texts nodes [] found = []
+found_texts nodes (q ∷ names) [] = []
+found_texts nodes (q ∷ names) (one ∷ found) = answer_text q (entry_found nodes one) ∷ found_texts nodes names found
 
--- each name, and the answer
-abbrev pub answered : List (ℕ × Outcome) → List Name → List LookedUp → List (Name × Answer)
-answered read [] answers = []
-answered read (name ∷ names) [] = []
-answered read (name ∷ names) (one ∷ others) = (name, answer_of read one) ∷ answered read names others
+-- Done where each was found to be declared
+abbrev pub found_status : List Found → Status
+found_status [] = Done
+found_status (one ∷ found) = cond (is_here one) (found_status found) Refused
 
--- it was read that it is declared
-abbrev pub IsKnown : List (ℕ × Outcome) → LookedUp → Type 0
-IsKnown read Unknown = Unit {0}
-IsKnown read (Damaged fault) = Unit {0}
-IsKnown read (Declared number) = (decl : Decl) × (read_for read number ≡ Some (Ok decl))
+-- the nodes of what was found are nodes of the arena
+abbrev pub IsInside : List Node → Found → Type 0
+IsInside nodes Unknown = Unit {0}
+IsInside nodes (Damaged fault) = Unit {0}
+IsInside nodes (Declared node) = AllBelow (length nodes) (decl_nodes node)
 
--- What a name is: it isn't listed, or was read.
-abbrev pub IsLookedUp : FullFile → List (ℕ × Outcome) → Name → LookedUp → Type 0
-IsLookedUp file read name Unknown = IsUnknown file name.path name.name
-IsLookedUp file read name (Damaged fault) = (number : ℕ) × HasOutcome file name.path name.name number (Err fault)
-IsLookedUp file read name (Declared number) =
-    (decl : Decl) × HasOutcome file name.path name.name number (Ok decl) × (read_for read number ≡ Some (Ok decl))
-
-abbrev pub AreLookedUp : FullFile → List (ℕ × Outcome) → List Name → List LookedUp → Type 0
-AreLookedUp file read [] [] = Unit {0}
-AreLookedUp file read [] (one ∷ others) = ⊥
-AreLookedUp file read (name ∷ names) [] = ⊥
-AreLookedUp file read (name ∷ names) (one ∷ others) = IsLookedUp file read name one × AreLookedUp file read names others
-
--- only what the names give was read
-abbrev pub OnlyRead : FullFile → List (ℕ × Outcome) → List Name → Type 0
-OnlyRead file read names =
-    (number : ℕ) (outcome : Outcome) → read_for read number ≡ Some outcome
-    → (name : Name) × Contains names name × HasOutcome file name.path name.name number outcome
+-- It is what stands behind these names in a session of files, as nodes of an arena.
+pub record IsShown (nodes : List Node) (files : List Opened) (names : List QName) (shown : Shown) : Type 0 where
+  pub names_are : shown.names.items ≡ names
+  pub found : AreFound nodes (session_entries files) names shown.found.items
+  pub declared : IsCount (declared_among (session_entries files) names) shown.tally.declared
+  pub listed : IsNameCount files shown.tally.listed

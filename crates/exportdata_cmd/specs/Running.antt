@@ -1,15 +1,20 @@
 -- How a run ends: as is due, or otherwise for a cause.
-use Rattle.std.specs.Prelude.{◌≡◌, ℕ, ◌⊎◌, List, [], take, Option}
+use Rattle.std.specs.Prelude.{◌≡◌, ℕ, ◌⊎◌, List, [], take, Option, Ok}
 use Rattle.std.specs.List.{concat}
 use Rattle.outside.specs.Counts.{Rose}
 use Rattle.outside.specs.Files.{Held}
 use Rattle.outside.specs.Sinks.{SinkState, Wrote, WroteSome}
-use Rattle.command_words.specs.Texts.{Word}
-use Rattle.command_words.specs.Forms.{Request, IsForm, IsFirstWrong}
+use Rattle.command_words.specs.Texts.{Word, Source, Name}
+use Rattle.command_words.specs.Forms.{Request, show, IsForm, IsFirstWrong}
+use Rattle.session_files.specs.Sessions.{Opened}
+use Rattle.session_files.specs.Loading.{failed, IsRefused, Loads}
 use Rattle.exportdata_cmd.specs.Printed.{Line}
-use Rattle.exportdata_cmd.specs.Endings.{Ending, wrong_word_end, cannot_read_end, no_memory_end}
-use Rattle.exportdata_cmd.specs.Due.{source_asked, Due}
+use Rattle.exportdata_cmd.specs.Endings.{Ending, wrong_word_end, cannot_read_end, limit_nodes_end, no_memory_end}
+use Rattle.exportdata_cmd.specs.Sources.{files_asked}
+use Rattle.exportdata_cmd.specs.Showing.{names_asked, AreTooMany}
+use Rattle.exportdata_cmd.specs.Due.{Due}
 use Rattle.exportdata_cmd.specs.declared.exits.Status.{Status}
+use Rattle.exportdata_cmd.specs.declared.exits.Status.TheVariants.{Memory, Limit}
 
 -- no line, or the first lines of what is due
 abbrev pub AreFirstDue : List Word → Option Held → List Line → Type 0
@@ -21,17 +26,35 @@ pub record IsStarved (words : List Word) (held : Option Held) (end : Ending) : T
   pub first : AreFirstDue words held end.output
   pub shown : end ≡ no_memory_end end.output
 
--- the words ask for something of a file that couldn't be read, and the count of faults of the files rose
-pub record IsUnread (words : List Word) (before after : ℕ) (end : Ending) : Type 0 where
+-- a file that the words ask for couldn't be read, behind others that are taken in, and the count of faults rose
+pub record IsUnread (words : List Word) (held : Option Held) (before after : ℕ) (end : Ending) : Type 0 where
   pub request : Request
   pub asked : IsForm words request
-  pub failed : Rose before after
-  pub shown : end ≡ cannot_read_end (source_asked request).file
+  pub file : List ℕ
+  pub refused : IsRefused held before after (files_asked request) (failed file)
+  pub shown : end ≡ cannot_read_end file
+
+-- The words ask to show names of files that are taken in, and the types that come with the names are more than the
+-- nodes that a command may have.
+pub record IsOutgrown (words : List Word) (held : Option Held) : Type 0 where
+  pub sources : List Source
+  pub names : List Name
+  pub files : List Opened
+  pub asked : IsForm words (show sources names)
+  pub loaded : Loads held (files_asked (show sources names)) (Ok files)
+  pub many : AreTooMany files (names_asked names)
 
 -- A run may end so where no sink fails. The count of faults of the files goes from before to after.
 abbrev pub MayEnd : List Word → Option Held → ℕ → ℕ → Ending → Type 0
 MayEnd words held before after end =
-    Due words held end ⊎ (IsStarved words held end ⊎ IsUnread words before after end)
+    Due words held end
+    ⊎ (IsStarved words held end
+    ⊎ (IsUnread words held before after end
+    ⊎ (IsOutgrown words held × (end ≡ limit_nodes_end))))
+
+-- The run fell short of what is due: memory is wanting, or the types have too many nodes.
+abbrev pub FallsShort : List Word → Option Held → Status → Type 0
+FallsShort words held status = (status ≡ Memory) ⊎ ((status ≡ Limit) × IsOutgrown words held)
 
 -- The run ended so: with this status, and with just these lines on both sinks.
 pub record EndedAs (end : Ending) (status : Status) (out out_after err err_after : SinkState) : Type 0 where

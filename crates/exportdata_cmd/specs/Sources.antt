@@ -1,50 +1,50 @@
--- What comes of opening a source.
-use Rattle.std.specs.Prelude.{◌≡◌, ℕ, ◌<◌, ◌≤◌, List, length, Option, None, Some, Result, Ok, Err, IfSome}
-use Rattle.std.specs.FinMap.{get}
-use Rattle.std.specs.List.{AllByRecursion}
-use Rattle.outside.specs.Files.{Held, IsLonger}
+-- The files that a command asks for, and the end of a run where one of them isn't taken in.
+use Rattle.std.specs.Prelude.{◌≡◌, ◌⊎◌, List, [], ◌∷◌, map}
+use Rattle.std.specs.String.{string_bytes}
 use Rattle.command_words.specs.Texts.{Source, source_word}
-use Rattle.wire_bytes.specs.declared.fault.ByteFault.{ByteFault}
+use Rattle.command_words.specs.Forms.{Request, list, show}
 use Rattle.name_index.specs.FullFile.{FullFile}
-use Rattle.name_index.specs.Envelope.{Envelope}
-use Rattle.name_index.specs.FirstBreach.{FirstBreach}
-use Rattle.exportdata_cmd.specs.Endings.{Ending, missing_end, damaged_end, limit_bytes_end}
-use Rattle.name_index.specs.declared.limits.TheConstants.{FILE_LIMIT}
+use Rattle.session_files.specs.Sessions.{Opened}
+use Rattle.session_files.specs.Loading.{Word as FileWord, full}
+use Rattle.session_files.specs.Loading.{Refusal, too_many_files, too_large, missing, failed, damaged}
+use Rattle.session_files.specs.declared.loading.LoadError.{LoadError}
+use Rattle.session_files.specs.declared.loading.LoadError.TheVariants as errors
+use Rattle.exportdata_cmd.specs.Endings.{Ending, missing_end, cannot_read_end, damaged_end, limit_files_end}
+use Rattle.exportdata_cmd.specs.Endings.{limit_bytes_end, no_memory_end}
 
--- the file has this body, or none, where the files are told
-abbrev pub HasBody : Option Held → List ℕ → Option (List ℕ) → Type 0
-HasBody held file body = IfSome held (λ files. get files file ≡ body)
+-- the sources of which something is asked
+abbrev pub sources_asked : Request → List Source
+sources_asked (list source) = source ∷ []
+sources_asked (show sources names) = sources
 
--- the file is longer than the limit, where the files are told
-abbrev pub IsTooLong : Option Held → List ℕ → Type 0
-IsTooLong held file = IfSome held (λ files. IsLonger (get files file) FILE_LIMIT)
+-- the full file that a source names, with the source's word for its label
+abbrev pub file_asked : Source → FileWord
+file_asked source = record { label = source_word source; file = source.file; form = full source.path }
 
--- the file has these bytes, which aren't too many
-pub record HasBytes (held : Option Held) (file bytes : List ℕ) : Type 0 where
-  pub body : HasBody held file (Some bytes)
-  pub short : length bytes ≤ FILE_LIMIT
+-- the file of a source that is open as this image
+abbrev pub opened_as : Source → FullFile → Opened
+opened_as source image = record { label = source_word source; file = image }
 
--- each file holds bytes
-abbrev pub HoldBytes : Held → Type 0
-HoldBytes files = (file bytes : List ℕ) → get files file ≡ Some bytes → AllByRecursion (λ b. b < 256) bytes
+abbrev pub files_asked : Request → List FileWord
+files_asked request = map file_asked (sources_asked request)
 
--- why a source isn't open: its file is missing, too long, or no full file, which has this first breach
-pub data SourceFault : Type 0 where
-  missing : SourceFault
-  too_long : SourceFault
-  breach : ByteFault → SourceFault
+-- the end of a run of which a file isn't taken in
+abbrev pub refusal_end : Refusal → Ending
+refusal_end too_many_files = limit_files_end
+refusal_end too_large = limit_bytes_end
+refusal_end (missing file) = missing_end file
+refusal_end (failed file) = cannot_read_end file
+refusal_end (damaged label fault) = damaged_end label fault
 
--- The source is open as this image, or has this fault.
-abbrev pub Opens : Option Held → Source → Result FullFile SourceFault → Type 0
-Opens held source (Err missing) = HasBody held source.file None
-Opens held source (Err too_long) = IsTooLong held source.file
-Opens held source (Err (breach fault)) =
-    (bytes : List ℕ) × HasBytes held source.file bytes × FirstBreach source.path bytes fault
-Opens held source (Ok image) =
-    (bytes : List ℕ) × HasBytes held source.file bytes × Envelope source.path bytes image
+-- the end of a run whose files aren't loaded
+abbrev pub load_end : LoadError → Ending
+load_end (errors.Missing file) = missing_end (string_bytes file)
+load_end (errors.Failed file) = cannot_read_end (string_bytes file)
+load_end (errors.Damaged label fault) = damaged_end (string_bytes label) fault
+load_end errors.TooManyFiles = limit_files_end
+load_end errors.TooLarge = limit_bytes_end
+load_end errors.OutOfMemory = no_memory_end []
 
--- the end of a run whose source has this fault
-abbrev pub source_end : Source → SourceFault → Ending
-source_end source missing = missing_end source.file
-source_end source too_long = limit_bytes_end
-source_end source (breach fault) = damaged_end (source_word source) fault
+-- The end is that of such a refusal, or memory is wanting.
+abbrev pub IsRefusalEnd : (Refusal → Type 0) → Ending → Type 0
+IsRefusalEnd Is end = ((refusal : Refusal) × Is refusal × (end ≡ refusal_end refusal)) ⊎ (end ≡ no_memory_end [])

@@ -1,131 +1,126 @@
-ghost use Rattle.std.specs.Prelude.{◌≡◌, ◌<◌, ℕ, List, get_or, map};
+//! Carrying out a command.
+
+ghost use Rattle.std.specs.Prelude.{◌≡◌, List, map};
 ghost use Rattle.std.specs.String.{string_bytes};
 ghost use Rattle.outside.specs.Sinks.{SinkState};
-ghost use Rattle.command_words.specs.Texts.{Source, source_word};
-ghost use Rattle.command_words.specs.Forms.{Request, list as list_request, show as show_request};
-ghost use Rattle.command_words.specs.Forms.{request_of, IsLabelled, source_of, names_of};
-ghost use Rattle.name_index.specs.FullFile.{FullFile};
+ghost use Rattle.command_words.specs.Texts.{Word, Source, source_word};
+ghost use Rattle.command_words.specs.Forms.{Request, list as list_request, show as show_request, IsForm};
+ghost use Rattle.command_words.specs.Forms.{source_of, sources_of, names_of};
+ghost use Rattle.session_files.specs.Sessions.{Opened};
 ghost use Rattle.exportdata_cmd.specs.Printed.{Line};
 ghost use Rattle.exportdata_cmd.specs.Endings.{output_end};
 ghost use Rattle.exportdata_cmd.specs.Putting.{PutsLines};
-ghost use Rattle.exportdata_cmd.specs.Due.{source_asked, Yields};
-ghost use Rattle.exportdata_cmd.specs.Carried.{GivesOne, HasRoom, Answered, Carried};
+ghost use Rattle.exportdata_cmd.specs.Due.{Yields};
+ghost use Rattle.exportdata_cmd.specs.Carried.{Answered, Carried};
 
 use crate::error_line::ErrorLine;
 use crate::exits::Status;
 use crate::listing::put_packages;
+use crate::loading::load;
 use crate::opening::open_source;
 use crate::putting::PutFault;
-use crate::showing::{Tally, look_up_names, put_answers, status_of};
-use command_words::{Command, NameWords, SourceWord, read_command};
-use name_index::Image;
+use crate::showing::{NODE_LIMIT, look_up, put_answers, status_of};
+use command_words::{Command, NameWords, SourceWord, SourceWords, read_command};
+use dangling_references::AskFault;
 use outside::{Files, Sink};
-use session::{LookUpFault, Objects, Session};
+use session_files::Session;
 use std::alloc::Global;
+use type_terms::Arena;
 
 /// Why a command isn't carried out.
-#[derive(Debug, Drop, Clone, Copy)]
-pub enum Stop<'a> {
+#[derive(Debug, Drop)]
+pub enum Stop {
     /// The output failed.
     Output,
     /// An error line is due.
-    Error(ErrorLine<'a>),
+    Error(ErrorLine),
 }
 
 /// Carries out the command that the words ask for, but for an error line.
-pub fn carry_out<'a, F: Files, S: Sink>(
+pub fn carry_out<F: Files, S: Sink>(
     alloc: Global,
-    words: &'a [String],
+    words: &[String],
     files: &mut F,
     out: &mut S,
-) -> Result<Status, Stop<'a>>
+) -> Result<Status, Stop>
     ensures carried { Carried (map string_bytes words.now) (F.held files.old) (F.faults files.old) (F.faults files.new)
         result (S.state out.old) (S.state out.new) }
     ensures kept { F.held files.new ≡ F.held files.old }
 {
-    let command = match read_command(words) {
-        Ok(command) => command,
-        Err(wrong) => return Err(Stop::Error(ErrorLine::WrongWord(wrong.number))),
-    };
-    let image = match open_source(alloc, &source_named(command), files) {
+    match read_command(words) {
+        Ok(Command::List(source)) => list(alloc, &source, files, out),
+        Ok(Command::Show { sources, names }) => show(alloc, sources, names, files, out),
+        Err(wrong) => Err(Stop::Error(ErrorLine::WrongWord(wrong.number))),
+    }
+}
+
+// Lists the packages and names of a source. No index over its names is made for it.
+fn list<F: Files, S: Sink>(
+    alloc: Global,
+    source: &SourceWord<'_>,
+    files: &mut F,
+    out: &mut S,
+) -> Result<Status, Stop>
+    requires { source.now.label.now ≡ source_word (source_of source.now) }
+    ensures carried { (words : List Word) → IsForm words (list_request (source_of source.now))
+        → Carried words (F.held files.old) (F.faults files.old) (F.faults files.new) result
+        (S.state out.old) (S.state out.new) }
+    ensures kept { F.held files.new ≡ F.held files.old }
+{
+    let image = match open_source(alloc, source, files) {
         Ok(image) => image,
         Err(error) => return Err(Stop::Error(error)),
     };
-    are_bytes(image.parts().file);
-    answer(alloc, command, &image, out)
+    finish(put_packages(alloc, &image, out), Status::Done)
 }
 
-// The source of which a command asks something.
-fn source_named<'a>(command: Command<'a>) -> SourceWord<'a>
-    requires { IsLabelled command }
-    ensures source { source_of result ≡ source_asked (request_of command.entry) }
-    ensures labelled { result.label.now ≡ source_word (source_of result) }
-{
-    match command {
-        Command::List(source) | Command::Show { source, .. } => source,
-    }
-}
-
-/// Answers a command from its open source.
-fn answer<'a, S: Sink>(
+// Shows what names are in some sources.
+fn show<F: Files, S: Sink>(
     alloc: Global,
-    command: Command<'a>,
-    image: &Image,
+    sources: SourceWords<'_>,
+    names: NameWords<'_>,
+    files: &mut F,
     out: &mut S,
-) -> Result<Status, Stop<'a>>
-    requires one { GivesOne image.now }
-    requires room { HasRoom image.now }
-    ensures { Answered image.now (request_of command.entry) result (S.state out.old) (S.state out.new) }
+) -> Result<Status, Stop>
+    ensures carried { (words : List Word) → IsForm words (show_request (sources_of sources.entry) (names_of names.entry))
+        → Carried words (F.held files.old) (F.faults files.old) (F.faults files.new) result
+        (S.state out.old) (S.state out.new) }
+    ensures kept { F.held files.new ≡ F.held files.old }
 {
-    match command {
-        Command::List(_) => list(alloc, image, out),
-        Command::Show { names, .. } => show(alloc, names, image, out),
-    }
+    let session = match load(alloc, sources, files) {
+        Ok(session) => session,
+        Err(error) => return Err(Stop::Error(error)),
+    };
+    show_names(alloc, names, &session, out)
 }
 
-// Lists the packages and names of a source.
-fn list<'a, S: Sink>(alloc: Global, image: &Image, out: &mut S) -> Result<Status, Stop<'a>>
-    ensures { (source : Source) → Answered image.now (list_request source) result (S.state out.old) (S.state out.new) }
-{
-    finish(put_packages(alloc, image, out), Status::Done)
-}
-
-/// The most nodes of the types that a command reads: 2^24, besides the 32 numbers of predeclared types. No file of at
-/// most 16 MiB has more types.
-const NODE_LIMIT: u32 = 16_777_216 + 32;
-
-// Shows what the names of a source are. All are looked up before a line is put.
-fn show<'a, S: Sink>(
+// Shows what names are in a session. All are looked up before a line is put.
+fn show_names<S: Sink>(
     alloc: Global,
     names: NameWords<'_>,
-    image: &Image,
+    session: &Session,
     out: &mut S,
-) -> Result<Status, Stop<'a>>
-    requires one { GivesOne image.now }
-    requires room { HasRoom image.now }
-    ensures { (source : Source) → Answered image.now (show_request source (names_of names.entry)) result
+) -> Result<Status, Stop>
+    ensures { (sources : List Source) → Answered session.now (show_request sources (names_of names.entry)) result
         (S.state out.old) (S.state out.new) }
 {
-    let mut objects = Objects::new(alloc, Session { image }, NODE_LIMIT);
-    let answers = match look_up_names(alloc, names, &mut objects) {
-        Ok(answers) => answers,
-        Err(LookUpFault::Nodes) => return Err(Stop::Error(ErrorLine::LimitNodes)),
-        Err(LookUpFault::OutOfMemory) => return Err(Stop::Error(ErrorLine::NoMemory)),
+    let mut arena = Arena::new(alloc, NODE_LIMIT);
+    let shown = match look_up(alloc, names, session, &mut arena) {
+        Ok(shown) => shown,
+        Err(AskFault::Nodes) => return Err(Stop::Error(ErrorLine::LimitNodes)),
+        Err(AskFault::OutOfMemory) => return Err(Stop::Error(ErrorLine::NoMemory)),
+        // The environment of a session has no table.
+        Err(AskFault::TableFull) => unreachable!(),
     };
-    let answers = answers.as_slice();
-    let tally = Tally {
-        declared: objects.declared_count(),
-        listed: image.name_count(),
-    };
-    let put = put_answers(alloc, names, answers, &objects, tally, out);
-    finish(put, status_of(answers))
+    let put = put_answers(alloc, &shown, &arena, out);
+    finish(put, status_of(shown.found.as_slice()))
 }
 
 // What putting all lines of a command comes to, where this status goes with them.
-fn finish<'a>(put: Result<(), PutFault>, status: Status) -> Result<Status, Stop<'a>>
-    ensures { (image : FullFile) (request : Request) (lines : List Line) (before after : SinkState)
-        → Yields image request (output_end status lines) → PutsLines lines put before after
-        → Answered image request result before after }
+fn finish(put: Result<(), PutFault>, status: Status) -> Result<Status, Stop>
+    ensures { (files : List Opened) (request : Request) (lines : List Line) (before after : SinkState)
+        → Yields files request (output_end status lines) → PutsLines lines put before after
+        → Answered files request result before after }
 {
     match put {
         Ok(()) => Ok(status),
@@ -133,8 +128,3 @@ fn finish<'a>(put: Result<(), PutFault>, status: Status) -> Result<Status, Stop<
         Err(PutFault::OutOfMemory) => Err(Stop::Error(ErrorLine::NoMemory)),
     }
 }
-
-/// Tells a proof what the type of a slice says, which it doesn't know of a slice in a struct behind a reference.
-fn are_bytes(bytes: &[u8])
-    ensures { (i : ℕ) → get_or bytes.now i 0 < 256 }
-{}

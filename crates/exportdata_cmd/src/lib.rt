@@ -6,6 +6,7 @@ mod error_line;
 mod exits;
 mod laws;
 mod listing;
+mod loading;
 mod opening;
 mod printing;
 mod putting;

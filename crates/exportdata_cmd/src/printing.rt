@@ -1,9 +1,11 @@
-ghost use Rattle.std.specs.Prelude.{◌≡◌, ◌++◌, decimal, OnOk};
+ghost use Rattle.std.specs.Prelude.{◌≡◌, ◌++◌, [], Some, None, decimal, OnOk};
 ghost use Rattle.wire_bytes.specs.FaultText.{fault_text};
 ghost use Rattle.exportdata_cmd.specs.Printed.{package_line, name_line};
-ghost use Rattle.exportdata_cmd.specs.Showing.{unknown, damaged, label, answer_text, decoded_line};
+ghost use Rattle.environments.specs.Environments.{damaged};
+ghost use Rattle.exportdata_cmd.specs.Showing.{label, answer_text, decoded_line};
 
 use decl_text::put_printed;
+use go_values::QName;
 use itoa::Buffer;
 use std::alloc::AllocError;
 use wire_bytes::ByteFault;
@@ -47,26 +49,21 @@ pub fn write_name_line(line: &mut Vec<u8>, name: &[u8], offset: u64) -> Result<(
     line.extend_from_slice(b"\n")
 }
 
-/// Makes the line of a name that the file doesn't list.
-pub fn write_unknown_line(line: &mut Vec<u8>, path: &[u8], name: &[u8]) -> Result<(), AllocError>
-    ensures { OnOk result (line.new.items ≡ answer_text (record { path = path.now; name = name.now }) unknown) }
+/// Makes the line of a name behind which nothing stands.
+pub fn write_unknown_line(line: &mut Vec<u8>, q: &QName) -> Result<(), AllocError>
+    ensures { OnOk result (line.new.items ≡ answer_text q.now None) }
 {
     line.clear();
-    put_label(line, path, name)?;
+    put_label(line, q)?;
     line.extend_from_slice(b" unknown\n")
 }
 
 /// Makes the line of a name whose declaration has a fault.
-pub fn write_damaged_line(
-    line: &mut Vec<u8>,
-    path: &[u8],
-    name: &[u8],
-    fault: ByteFault,
-) -> Result<(), AllocError>
-    ensures { OnOk result (line.new.items ≡ answer_text (record { path = path.now; name = name.now }) (damaged fault)) }
+pub fn write_damaged_line(line: &mut Vec<u8>, q: &QName, fault: ByteFault) -> Result<(), AllocError>
+    ensures { OnOk result (line.new.items ≡ answer_text q.now (Some (damaged fault []))) }
 {
     line.clear();
-    put_label(line, path, name)?;
+    put_label(line, q)?;
     line.extend_from_slice(b" damaged ")?;
     put_fault(line, fault)?;
     line.extend_from_slice(b"\n")
@@ -83,10 +80,10 @@ pub fn write_decoded_line(line: &mut Vec<u8>, count: u64, all: u64) -> Result<()
 }
 
 /// Adds a name with the path of its package.
-fn put_label(line: &mut Vec<u8>, path: &[u8], name: &[u8]) -> Result<(), AllocError>
-    ensures { OnOk result (line.new.items ≡ line.old.items ++ label (record { path = path.now; name = name.now })) }
+fn put_label(line: &mut Vec<u8>, q: &QName) -> Result<(), AllocError>
+    ensures { OnOk result (line.new.items ≡ line.old.items ++ label q.now) }
 {
-    put_printed(line, path)?;
+    put_printed(line, q.path.as_slice())?;
     line.extend_from_slice(b":")?;
-    put_printed(line, name)
+    put_printed(line, q.name.as_slice())
 }

@@ -25,8 +25,8 @@ pub fn put_line<S: Sink>(line: &[u8], out: &mut S) -> Result<(), PutFault>
 }
 
 /// Puts an error line, or where there is no memory for it the line that says so, and gives the status.
-pub fn report<E: Sink>(alloc: Global, error: ErrorLine<'_>, err: &mut E) -> Status
-    ensures { ReportsOf error.entry result (E.state err.old) (E.state err.new) }
+pub fn report<E: Sink>(alloc: Global, error: &ErrorLine, err: &mut E) -> Status
+    ensures { ReportsOf error.now result (E.state err.old) (E.state err.new) }
 {
     let Ok(line) = error.line(alloc) else {
         return put_end(b"no memory\n", Status::Memory, err);

@@ -1,242 +1,224 @@
 //! The lines of `show`.
 
-ghost use Rattle.std.specs.Prelude.{◌≡◌, ◌<◌, ◌⊎◌, ◌∷◌, ◌++◌, List, [], ℕ, length, Some, Ok, IfOk, OnOk, IsErrOf};
+ghost use Rattle.std.specs.Prelude.{◌≡◌, ◌∷◌, ◌++◌, List, [], length, Some, IfOk, OnOk, IsErrOf};
 ghost use Rattle.std.specs.List.{AllByRecursion};
-ghost use Rattle.command_words.specs.Texts.{Name};
+ghost use Rattle.type_terms.specs.Arenas.{AllBelow};
+ghost use Rattle.type_terms.specs.Declarations.{decl_nodes, decl_of};
+ghost use Rattle.environments.specs.Environments.{declared};
 ghost use Rattle.command_words.specs.Forms.{name_of, names_of};
-ghost use Rattle.session.specs.Answers.{Outcome, HasOutcome};
-ghost use Rattle.session.specs.OpenFile.{most_types};
-ghost use Rattle.session.specs.Asked.{read_by, read_for, lent_outcome, IsLentInside};
-ghost use Rattle.exportdata_cmd.specs.Showing.{answer_text, answer_texts, decoded_line, shown_status};
-ghost use Rattle.exportdata_cmd.specs.LookedUp.{answer_of, answered, declared_by, IsKnown, IsLookedUp, AreLookedUp};
-ghost use Rattle.exportdata_cmd.specs.LookedUp.{OnlyRead};
+ghost use Rattle.exportdata_cmd.specs.Showing.{qualified, names_asked, answer_text, decoded_line, AreTooMany};
+ghost use Rattle.exportdata_cmd.specs.LookedUp.{entry_found, found_texts, found_status, IsInside, IsShown};
 ghost use Rattle.exportdata_cmd.specs.Putting.{PutsLines};
 
 use crate::exits::Status;
 use crate::printing::{write_damaged_line, write_decoded_line, write_unknown_line};
 use crate::putting::{PutFault, put_line};
+use asked_names::{Found, count_declared, find_all};
 use command_words::{NameWord, NameWords};
+use dangling_references::AskFault;
 use decl_text::{Room, put_decl};
 use go_values::{Bytes, QName};
 use outside::Sink;
-use session::{Declaration, LookUpFault, Objects};
+use session_env::SessionEnv;
+use session_files::Session;
 use std::alloc::{AllocError, Global};
-use wire_bytes::ByteFault;
+use type_terms::{Arena, DeclNode};
 
-/// What a name is that was asked for.
-#[derive(Debug, Drop, Clone, Copy, PartialEq, Eq)]
-pub enum LookedUp {
-    /// The file doesn't list it.
-    Unknown,
-    /// Its declaration has this first fault.
-    Damaged(ByteFault),
-    /// It was read, and has this number in the index.
-    Declared(u32),
-}
+/// The most nodes of the types that a command reads: 2^24, besides the 32 numbers of predeclared types.
+pub const NODE_LIMIT: u32 = 16_777_216 + 32;
 
-/// How many names are declared of those that were asked for, each counted once, and how many the file lists.
-#[derive(Debug, Clone, Copy)]
+/// How many distinct names are declared of those that were asked for, and how many the files list.
+#[derive(Debug, Drop, Clone, Copy)]
 pub struct Tally {
-    pub declared: usize,
-    pub listed: u32,
+    pub declared: u64,
+    pub listed: u64,
 }
 
-/// Looks up all names, each once.
-pub fn look_up_names(
+/// Names that were asked for, and what stands behind each.
+#[derive(Drop)]
+pub struct Shown {
+    pub names: Vec<QName>,
+    pub found: Vec<Found>,
+    pub tally: Tally,
+}
+
+/// Looks up all names. Their types are added to the arena, which is empty before.
+pub fn look_up(
     alloc: Global,
     names: NameWords<'_>,
-    objects: &mut Objects<'_>,
-) -> Result<Vec<LookedUp>, LookUpFault>
-    requires { (read_by objects.old) ≡ [] }
-    ensures answers { IfOk result (λ answers.
-        AreLookedUp objects.old.file (read_by objects.new) (names_of names.entry) answers.items) }
-    ensures only { IfOk result (λ answers. OnlyRead objects.old.file (read_by objects.new) (names_of names.entry)) }
-    ensures file { objects.new.file ≡ objects.old.file }
-    ensures room { IsErrOf result LookUpFault.Nodes → objects.old.limit < most_types objects.old.file }
+    session: &Session,
+    arena: &mut Arena,
+) -> Result<Shown, AskFault>
+    requires { arena.old ≡ record { nodes = []; limit = NODE_LIMIT } }
+    ensures shown { IfOk result (IsShown arena.new.nodes session.now (names_asked (names_of names.entry))) }
+    ensures outgrown { IsErrOf result AskFault.Nodes → AreTooMany session.now (names_asked (names_of names.entry)) }
+    ensures no_table { ¬ IsErrOf result AskFault.TableFull }
 {
-    let mut answers = Vec::new(alloc);
-    for k in 0..names.len() {
-        let Some(name) = names.get(k) else {
+    let names = qualified_names(alloc, names)?;
+    let mut env = SessionEnv::new(alloc, session);
+    let found = find_all(alloc, &mut env, arena, names.as_slice())?;
+    let tally = Tally {
+        declared: count_declared(alloc, names.as_slice(), found.as_slice())?,
+        listed: session.names(),
+    };
+    Ok(Shown {
+        names,
+        found,
+        tally,
+    })
+}
+
+/// The names that words name.
+fn qualified_names(alloc: Global, words: NameWords<'_>) -> Result<Vec<QName>, AllocError>
+    ensures { IfOk result (λ names. names.items ≡ names_asked (names_of words.entry)) }
+{
+    let mut names = Vec::new(alloc);
+    for k in 0..words.len() {
+        let Some(word) = words.get(k) else {
             unreachable!();
         };
-        let answer = look_up_name(alloc, &name, objects)?;
-        if answers.push(answer).is_err() {
-            return Err(LookUpFault::OutOfMemory);
-        }
+        names.push(qualified_name(alloc, &word)?)?;
     }
-    Ok(answers)
+    Ok(names)
 }
 
-/// Looks up a name.
-fn look_up_name(
-    alloc: Global,
-    name: &NameWord<'_>,
-    objects: &mut Objects<'_>,
-) -> Result<LookedUp, LookUpFault>
-    ensures answer { IfOk result (λ answer.
-        IsLookedUp objects.old.file (read_by objects.new) (name_of name.now) answer) }
-    ensures stays { (number : ℕ) (outcome : Outcome) → read_for (read_by objects.old) number ≡ Some outcome
-        → read_for (read_by objects.new) number ≡ Some outcome }
-    ensures only { (number : ℕ) (outcome : Outcome) → read_for (read_by objects.new) number ≡ Some outcome
-        → (read_for (read_by objects.old) number ≡ Some outcome)
-        ⊎ HasOutcome objects.old.file (name_of name.now).path (name_of name.now).name number outcome }
-    ensures file { objects.new.file ≡ objects.old.file }
-    ensures limit { objects.new.limit ≡ objects.old.limit }
-    ensures room { IsErrOf result LookUpFault.Nodes → objects.old.limit < most_types objects.old.file }
+/// The name that a word names.
+fn qualified_name(alloc: Global, word: &NameWord<'_>) -> Result<QName, AllocError>
+    ensures { IfOk result (λ q. q ≡ qualified (name_of word.now)) }
 {
-    let Some(number) = objects.look_up(alloc, name.path.as_bytes(), name.name.as_bytes())? else {
-        return Ok(LookedUp::Unknown);
-    };
-    match objects.outcome(number) {
-        Some(Ok(_)) => Ok(LookedUp::Declared(number)),
-        Some(Err(fault)) => Ok(LookedUp::Damaged(fault)),
-        None => unreachable!(),
-    }
+    Ok(QName {
+        path: Bytes::from_slice(alloc, word.path.as_bytes())?,
+        name: Bytes::from_slice(alloc, word.name.as_bytes())?,
+    })
 }
 
-/// The status that goes with some answers.
-pub fn status_of(answers: &[LookedUp]) -> Status
-    ensures { (read : List (ℕ × Outcome)) (names : List Name) → length answers.now ≡ length names
-        → AllByRecursion (IsKnown read) answers.now → result ≡ shown_status (answered read names answers.now) }
+/// The status that goes with what was found.
+pub fn status_of(found: &[Found]) -> Status
+    ensures { result ≡ found_status found.now }
 {
-    for answer in answers {
-        match answer {
-            LookedUp::Declared(_) => {}
-            LookedUp::Unknown | LookedUp::Damaged(_) => return Status::Refused,
+    for one in found {
+        match one {
+            Found::Declared(_) => {}
+            Found::Unknown | Found::Damaged(_) => return Status::Refused,
         }
     }
     Status::Done
 }
 
-/// The room in which answers are made, one after the other.
+/// The room in which texts are made, one after the other.
 #[derive(Drop)]
 struct Page {
     line: Vec<u8>,
     room: Room,
 }
 
-/// Puts what the names are, each answer as one piece, and then the tally.
+/// Puts what the names are, each as one piece, and then the tally.
 pub fn put_answers<S: Sink>(
     alloc: Global,
-    names: NameWords<'_>,
-    answers: &[LookedUp],
-    objects: &Objects<'_>,
-    tally: Tally,
+    shown: &Shown,
+    arena: &Arena,
     out: &mut S,
 ) -> Result<(), PutFault>
-    requires each { length answers.now ≡ length (names_of names) }
-    requires known { AllByRecursion (IsKnown (read_by objects.now)) answers.now }
-    ensures { PutsLines (answer_texts (answered (read_by objects.now) (names_of names.entry) answers.now)
-        ++ decoded_line tally.declared tally.listed ∷ []) result (S.state out.old) (S.state out.new) }
+    requires each { length shown.now.found.items ≡ length shown.now.names.items }
+    requires inside { AllByRecursion (IsInside arena.now.nodes) shown.now.found.items }
+    ensures { PutsLines (found_texts arena.now.nodes shown.now.names.items shown.now.found.items
+        ++ decoded_line shown.now.tally.declared shown.now.tally.listed ∷ []) result
+        (S.state out.old) (S.state out.new) }
 {
     let mut page = Page {
         line: Vec::new(alloc),
         room: Room::new(alloc),
     };
-    put_names(alloc, names, answers, objects, &mut page, out)?;
-    put_tally(tally, &mut page.line, out)
+    put_names(
+        alloc,
+        shown.names.as_slice(),
+        shown.found.as_slice(),
+        arena,
+        &mut page,
+        out,
+    )?;
+    put_tally(shown.tally, &mut page.line, out)
 }
 
-/// Puts how many names are declared, and how many the file lists.
+/// Puts how many names are declared, and how many the files list.
 fn put_tally<S: Sink>(tally: Tally, line: &mut Vec<u8>, out: &mut S) -> Result<(), PutFault>
     ensures { PutsLines (decoded_line tally.declared tally.listed ∷ []) result (S.state out.old) (S.state out.new) }
 {
-    let declared = tally.declared as u64;
-    if write_decoded_line(line, declared, u64::from(tally.listed)).is_err() {
+    if write_decoded_line(line, tally.declared, tally.listed).is_err() {
         return Err(PutFault::OutOfMemory);
     }
     put_line(line.as_slice(), out)
 }
 
-/// Puts what the names are. One page serves for all.
+/// Puts what was found for names. One page serves for all.
 fn put_names<S: Sink>(
     alloc: Global,
-    names: NameWords<'_>,
-    answers: &[LookedUp],
-    objects: &Objects<'_>,
+    names: &[QName],
+    found: &[Found],
+    arena: &Arena,
     page: &mut Page,
     out: &mut S,
 ) -> Result<(), PutFault>
-    requires each { length answers.now ≡ length (names_of names) }
-    requires known { AllByRecursion (IsKnown (read_by objects.now)) answers.now }
-    ensures { PutsLines (answer_texts (answered (read_by objects.now) (names_of names.entry) answers.now)) result
+    requires each { length found.now ≡ length names.now }
+    requires inside { AllByRecursion (IsInside arena.now.nodes) found.now }
+    ensures { PutsLines (found_texts arena.now.nodes names.now found.now) result
         (S.state out.old) (S.state out.new) }
 {
-    for (k, answer) in answers.iter().enumerate() {
-        let Some(name) = names.get(k) else {
-            unreachable!();
-        };
-        put_answer(alloc, &name, *answer, objects, page, out)?;
+    for (k, one) in found.iter().enumerate() {
+        put_answer(alloc, &names[k], one, arena, page, out)?;
     }
     Ok(())
 }
 
-/// Puts what a name is.
+/// Puts what was found for a name.
 fn put_answer<S: Sink>(
     alloc: Global,
-    name: &NameWord<'_>,
-    answer: LookedUp,
-    objects: &Objects<'_>,
+    q: &QName,
+    one: &Found,
+    arena: &Arena,
     page: &mut Page,
     out: &mut S,
 ) -> Result<(), PutFault>
-    requires { IsKnown (read_by objects.now) answer }
-    ensures { PutsLines (answer_text (name_of name.now) (answer_of (read_by objects.now) answer) ∷ []) result
+    requires { IsInside arena.now.nodes one.now }
+    ensures { PutsLines (answer_text q.now (entry_found arena.now.nodes one.now) ∷ []) result
         (S.state out.old) (S.state out.new) }
 {
-    if write_answer(alloc, name, answer, objects, page).is_err() {
+    if write_answer(alloc, q, one, arena, page).is_err() {
         return Err(PutFault::OutOfMemory);
     }
     put_line(page.line.as_slice(), out)
 }
 
-/// Makes the text of an answer.
+/// Makes the text of what was found for a name.
 fn write_answer(
     alloc: Global,
-    name: &NameWord<'_>,
-    answer: LookedUp,
-    objects: &Objects<'_>,
+    q: &QName,
+    one: &Found,
+    arena: &Arena,
     page: &mut Page,
 ) -> Result<(), AllocError>
-    requires { IsKnown (read_by objects.now) answer }
-    ensures { OnOk result
-        (page.new.line.items ≡ answer_text (name_of name.now) (answer_of (read_by objects.now) answer)) }
+    requires { IsInside arena.now.nodes one.now }
+    ensures { OnOk result (page.new.line.items ≡ answer_text q.now (entry_found arena.now.nodes one.now)) }
 {
-    let path = name.path.as_bytes();
-    match answer {
-        LookedUp::Unknown => write_unknown_line(&mut page.line, path, name.name.as_bytes()),
-        LookedUp::Damaged(fault) => {
-            write_damaged_line(&mut page.line, path, name.name.as_bytes(), fault)
-        }
-        LookedUp::Declared(number) => match objects.outcome(number) {
-            Some(Ok(declaration)) => write_declaration(alloc, name, declaration, page),
-            _ => unreachable!(),
-        },
+    match one {
+        Found::Unknown => write_unknown_line(&mut page.line, q),
+        Found::Damaged(fault) => write_damaged_line(&mut page.line, q, *fault),
+        Found::Declared(node) => write_declaration(alloc, q, node, arena, page),
     }
 }
 
 /// Makes the text of a declaration.
 fn write_declaration(
     alloc: Global,
-    name: &NameWord<'_>,
-    declaration: Declaration<'_>,
+    q: &QName,
+    node: &DeclNode,
+    arena: &Arena,
     page: &mut Page,
 ) -> Result<(), AllocError>
-    requires { IsLentInside (Ok declaration) }
-    ensures { OnOk result (page.new.line.items
-        ≡ answer_text (name_of name.now) (declared_by (Some (lent_outcome (Ok declaration.entry))))) }
+    requires { AllBelow (length arena.now.nodes) (decl_nodes node.now) }
+    ensures { OnOk result
+        (page.new.line.items ≡ answer_text q.now (Some (declared (decl_of arena.now.nodes node.now)))) }
 {
-    let q = QName {
-        path: Bytes::from_slice(alloc, name.path.as_bytes())?,
-        name: Bytes::from_slice(alloc, name.name.as_bytes())?,
-    };
     page.line.clear();
-    put_decl(
-        alloc,
-        &mut page.room,
-        &mut page.line,
-        &q,
-        declaration.node,
-        declaration.arena,
-    )
+    put_decl(alloc, &mut page.room, &mut page.line, q, node, arena)
 }

@@ -4,7 +4,7 @@ ghost use Rattle.outside.specs.Counts.{Rose};
 ghost use Rattle.outside.specs.Sinks.{Wrote, WroteSome};
 ghost use Rattle.exportdata_cmd.specs.Endings.{Ending};
 ghost use Rattle.exportdata_cmd.specs.Due.{Due};
-ghost use Rattle.exportdata_cmd.specs.Running.{MayEnd, EndedAs, BrokeOff, MayRefuse};
+ghost use Rattle.exportdata_cmd.specs.Running.{MayEnd, FallsShort, EndedAs, BrokeOff, MayRefuse};
 
 use crate::command::{Stop, carry_out};
 use crate::error_line::ErrorLine;
@@ -31,14 +31,14 @@ pub fn run<R: Threads + Sync, F: Files, S: Sink, E: Sink, G: Gate>(
         × MayEnd (map string_bytes words.now) (F.held files.old) (F.faults files.old) (F.faults files.new) end
         × EndedAs end result (S.state out.old) (S.state out.new) (E.state err.old) (E.state err.new) }
 
-    // What is due is left, unless memory is wanting or a fault was met.
+    // What is due is left, unless memory is wanting, the types have too many nodes, or a fault was met.
     ensures complete { (due : Ending) → Due (map string_bytes words.now) (F.held files.old) due
         → IsSome (F.held files.old)
         → ¬ Rose (F.faults files.old) (F.faults files.new)
         → ¬ Rose (S.state out.old).faults (S.state out.new).faults
         → ¬ Rose (E.state err.old).faults (E.state err.new).faults
         → EndedAs due result (S.state out.old) (S.state out.new) (E.state err.old) (E.state err.new)
-        ⊎ (result ≡ Status.Memory) }
+        ⊎ FallsShort (map string_bytes words.now) (F.held files.old) result }
 
     // Only a sink's fault makes it Output, and each does. Then it broke off before it had ended so.
     ensures output { result ≡ Status.Output → Rose (S.state out.old).faults (S.state out.new).faults
@@ -56,7 +56,7 @@ pub fn run<R: Threads + Sync, F: Files, S: Sink, E: Sink, G: Gate>(
     match carry_out(alloc, words, files, out) {
         Ok(status) => status,
         Err(Stop::Output) => Status::Output,
-        Err(Stop::Error(error)) => report(alloc, error, err),
+        Err(Stop::Error(error)) => report(alloc, &error, err),
     }
 }
 
@@ -68,5 +68,5 @@ pub fn refuse_words<E: Sink>(alloc: Global, words: &[String], err: &mut E) -> St
         × WroteSome (E.state err.old) (E.state err.new) end.error }
 {
     let wrong = first_wrong_word(words);
-    report(alloc, ErrorLine::WrongWord(wrong.number), err)
+    report(alloc, &ErrorLine::WrongWord(wrong.number), err)
 }

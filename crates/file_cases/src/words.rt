@@ -2,13 +2,25 @@ use crate::faults::CaseFault;
 use crate::items::byte_of;
 use std::alloc::Global;
 
-/// The words of a line. In a word `\x` and two digits stand for a byte, as in what is printed.
+/// The words of a line. In a word `\x` and two digits stand for a byte, as in what is printed. A word that stands there
+/// 256 times ends in `*256`.
 pub fn words_of(alloc: Global, line: &str) -> Result<Vec<String>, CaseFault> {
     let mut words = Vec::new(alloc);
-    for word in line.split_whitespace() {
-        words.push(word_of(alloc, word)?)?;
+    for item in line.split_whitespace() {
+        let (word, count) = repeated(item)?;
+        for _ in 0..count {
+            words.push(word_of(alloc, word)?)?;
+        }
     }
     Ok(words)
+}
+
+/// A word, and how often it stands there.
+fn repeated(item: &str) -> Result<(&str, u64), CaseFault> {
+    match item.split_once('*') {
+        Some((word, count)) => Ok((word, count.parse().map_err(|_| CaseFault::Unclear)?)),
+        None => Ok((item, 1)),
+    }
 }
 
 fn word_of(alloc: Global, word: &str) -> Result<String, CaseFault> {

@@ -1,16 +1,18 @@
 use Rattle.std.proofs.Common.{Some, sym, ap, ◌∙◌}
 use Rattle.std.specs.String.{string_bytes}
-use Rattle.command_words.proofs.Named.{text_there, got, got_one}
+use Rattle.command_words.specs.Texts.{name_word, IsName, divided_name}
+use Rattle.command_words.specs.Forms.{name_of}
+use Rattle.command_words.proofs.Named.{name_again, text_there, got, got_one}
 use Rattle.command_words.proofs.names.NameWords.get.Goals as goal
 
 pub returns-clause-exact : goal.returns-clause-exact
 returns-clause-exact c =
     let at = c.in_ok-word.ensures.lookup in
     let there = text_there string_bytes c.args.self.now.words.now c.args.k c.in_ok-word.word.now at.3.0 at.1 ∙ ap Some (sym c.as_str.ensures.value) in
-    got _ c.args.k c.as_str.result.now there c.args.self.now.are_names c.of.result c.of.ensures.spelled c.of.ensures.sound c.of.ensures.none
+    got name_word IsName divided_name name_again name_of _ c.args.k c.as_str.result.now there c.args.self.now.are_names c.of.result c.of.ensures.spelled c.of.ensures.sound c.of.ensures.none
 
 pub returns-clause-there : goal.returns-clause-there
 returns-clause-there c _ =
     let at = c.in_ok-word.ensures.lookup in
     let there = text_there string_bytes c.args.self.now.words.now c.args.k c.in_ok-word.word.now at.3.0 at.1 ∙ ap Some (sym c.as_str.ensures.value) in
-    got_one _ c.args.k c.as_str.result.now there c.args.self.now.are_names c.of.result c.of.ensures.none
+    got_one name_word IsName divided_name name_again name_of _ c.args.k c.as_str.result.now there c.args.self.now.are_names c.of.result c.of.ensures.none

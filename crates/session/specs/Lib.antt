@@ -1,4 +1,0 @@
-pub mod OpenFile
-pub mod Names
-pub mod Answers
-pub mod Asked
