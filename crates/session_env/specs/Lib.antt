@@ -1,4 +1,2 @@
 pub mod SessionEntries
 pub mod SessionEntryLaws
-pub mod SessionReaders
-pub mod SessionReaderLaws

@@ -1,7 +1,6 @@
 //! A session of files as an environment.
 
-ghost use Rattle.std.specs.Prelude.{◌≡◌, ◌<◌, ◌⊎◌, ℕ, List, Some, None, length, IfOk, IsErrOf, OnOk};
-ghost use Rattle.type_terms.specs.declared.descriptors.Node.{Node};
+ghost use Rattle.std.specs.Prelude.{◌≡◌, ◌<◌, ◌⊎◌, ℕ, Some, None, length, IfOk, IsErrOf};
 ghost use Rattle.type_terms.specs.Arenas.{AllBelow, Extends};
 ghost use Rattle.type_terms.specs.Additions.{AddsOnly, Outgrows};
 ghost use Rattle.type_terms.specs.Declarations.{decl_nodes};
@@ -9,48 +8,36 @@ ghost use Rattle.decl_spelling.specs.Declarations.{decl_at};
 ghost use Rattle.decl_spelling.specs.Leaving.{types_read};
 ghost use Rattle.decl_reader.specs.Wholes.{ReadsDecl};
 ghost use Rattle.session_files.specs.FileSections.{sections_in};
-ghost use Rattle.session_files.specs.Sessions.{AreSound, Opened};
+ghost use Rattle.session_files.specs.Sessions.{AreSound};
 ghost use Rattle.session_files.specs.Names.{comes_down};
-ghost use Rattle.session_env.specs.SessionReaders.{AreKept, IsInFile};
 
-use decl_reader::{DeclFault, OpenReader};
+use decl_reader::{DeclFault, read_decl};
 use environments::{Env, EnvError, Given};
 use go_values::QName;
 use session_files::{Place, Session};
-use std::alloc::{AllocError, Global};
+use std::alloc::Global;
 use std::marker::Brand;
 use std::sync::ledger::{Blank, Ledger};
 use steps::Steps;
 use type_terms::{Arena, DeclNode};
 use wire_bytes::ByteFault;
 
-/// The names of a session as an environment: the declaration of a name is read from its bytes whenever it is asked for,
-/// but a descriptor that many declarations of a file share is read once. It means what the first file that lists a name
-/// has for it. All of its calls have to be given one arena.
-#[derive(Drop)]
+/// The names of a session as an environment: the declaration of a name is read from its bytes whenever it is asked for.
+/// It means what the first file that lists a name has for it.
+#[derive(Clone, Copy)]
 pub struct SessionEnv<'s> {
     alloc: Global,
     pub session: &'s Session,
-    /// What is remembered of each file, by the number that the file has in the session. Those that weren't asked for
-    /// are missing at the end.
-    readers: Vec<OpenReader>,
 }
 
 impl<'s> SessionEnv<'s> {
-    ghost use Rattle.session_env.specs.SessionReaders.{AreKept};
-
-    /// What this session has. It takes no memory.
+    /// What this session has.
     pub fn new(alloc: Global, session: &'s Session) -> SessionEnv<'s>
         ensures session { result.session.now ≡ session.entry.now }
         ensures sound { AreSound result.session.now }
-        ensures kept { (nodes : List Node) → AreKept result.session.now nodes result.readers.items }
     {
         session.keeps_sound_files();
-        SessionEnv {
-            alloc,
-            session,
-            readers: Vec::new(alloc),
-        }
+        SessionEnv { alloc, session }
     }
 }
 
@@ -60,8 +47,6 @@ impl<'a> Env<'a> for SessionEnv<'_> {
     ghost use Rattle.session_files.specs.Answers.{packages};
     ghost use Rattle.session_env.specs.SessionEntries.{session_entries};
     ghost use Rattle.session_env.specs.SessionEntryLaws.{session_finite, session_proper};
-    ghost use Rattle.session_env.specs.SessionReaders.{AreKept};
-    ghost use Rattle.session_env.specs.SessionReaderLaws.{readers_stay};
 
     ghost entries = { λ env nodes. session_entries env.session.now };
 
@@ -69,7 +54,7 @@ impl<'a> Env<'a> for SessionEnv<'_> {
 
     ghost packages = { λ env. packages env.session.now };
 
-    ghost stands = { λ env nodes. AreSound env.session.now × AreKept env.session.now nodes env.readers.items };
+    ghost stands = { λ env nodes. AreSound env.session.now };
 
     ghost asked = { λ env. None };
 
@@ -80,7 +65,7 @@ impl<'a> Env<'a> for SessionEnv<'_> {
             Some(place) => place,
             None => return Err(unknown(q)),
         };
-        match read_at(self.alloc, self.session, &mut self.readers, &place, arena) {
+        match read_at(self.alloc, self.session, &place, arena) {
             Ok(node) => Ok(Given::Made(node)),
             Err(DeclFault::Bytes(fault)) => Err(damaged(q, fault)),
             Err(DeclFault::Nodes) => Err(EnvError::Nodes),
@@ -94,10 +79,9 @@ impl<'a> Env<'a> for SessionEnv<'_> {
 
     ghost finite = { λ env nodes q entry is. session_finite env.session.now q entry is };
 
-    ghost proper = { λ env nodes q decl stands is. session_proper env.session.now q decl stands.0 is };
+    ghost proper = { λ env nodes q decl stands is. session_proper env.session.now q decl stands is };
 
-    ghost stays = { λ env nodes more stands.
-        ((stands.0, readers_stay env.session.now nodes more env.readers.items stands.1), refl) };
+    ghost stays = { λ env nodes more stands. (stands, refl) };
 }
 
 /// That there is nothing for the name, or that there was no memory to say so.
@@ -124,12 +108,9 @@ fn damaged(q: &QName, fault: ByteFault) -> EnvError
 fn read_at(
     alloc: Global,
     session: &Session,
-    readers: &mut Vec<OpenReader>,
     place: &Place<'_>,
     arena: &mut Arena,
 ) -> Result<DeclNode, DeclFault>
-    requires kept { AreKept session.now arena.old.nodes readers.old.items }
-    requires file { IsInFile session.now place.now }
     requires inside { place.now.offset < place.now.image.now.body.len }
     ensures exact { ReadsDecl result arena.new.nodes
         (decl_at (sections_in place.now.image.now) (comes_down session.now) place.now.offset) }
@@ -140,21 +121,17 @@ fn read_at(
     ensures outgrown { IsErrOf result DeclFault.Nodes → Outgrows arena.old
         (types_read (sections_in place.now.image.now) (comes_down session.now) place.now.offset) }
     ensures full { IsErrOf result DeclFault.Nodes → length arena.new.nodes ≡ arena.new.limit }
-    ensures keeps { AreKept session.now arena.new.nodes readers.new.items }
 {
-    read_counted::<Brand>(alloc, session, readers, place, arena, Blank::new(1))
+    read_counted::<Brand>(alloc, session, place, arena, Blank::new(1))
 }
 
 fn read_counted<L: Ledger>(
     alloc: Global,
     session: &Session,
-    readers: &mut Vec<OpenReader>,
     place: &Place<'_>,
     arena: &mut Arena,
     blank: Blank,
 ) -> Result<DeclNode, DeclFault>
-    requires kept { AreKept session.now arena.old.nodes readers.old.items }
-    requires file { IsInFile session.now place.now }
     requires inside { place.now.offset < place.now.image.now.body.len }
     requires name { blank.name ≡ L.name }
     requires parts { blank.parts ≡ L.parts }
@@ -168,11 +145,9 @@ fn read_counted<L: Ledger>(
     ensures outgrown { IsErrOf result DeclFault.Nodes → Outgrows arena.old
         (types_read (sections_in place.now.image.now) (comes_down session.now) place.now.offset) }
     ensures full { IsErrOf result DeclFault.Nodes → length arena.new.nodes ≡ arena.new.limit }
-    ensures keeps { AreKept session.now arena.new.nodes readers.new.items }
 {
     let mut steps = Steps::<L>::start(blank);
-    add_readers(alloc, readers, place.file)?;
-    readers[place.file as usize].read(
+    read_decl(
         alloc,
         &place.image.parts(),
         place.offset,
@@ -180,16 +155,4 @@ fn read_counted<L: Ledger>(
         arena,
         &mut steps,
     )
-}
-
-/// There is a reader for the file with the number, and for those before it. New ones remember nothing.
-fn add_readers(alloc: Global, readers: &mut Vec<OpenReader>, file: u32) -> Result<(), AllocError>
-    ensures there { OnOk result (file < length readers.new.items) }
-    ensures kept { (files : List Opened) (nodes : List Node)
-        → AreKept files nodes readers.old.items → AreKept files nodes readers.new.items }
-{
-    while readers.len() <= file as usize {
-        readers.push(OpenReader::new(alloc))?;
-    }
-    Ok(())
 }
