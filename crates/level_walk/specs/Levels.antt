@@ -1,0 +1,38 @@
+-- Tests of pairs that go level by level. A pair is first made ready (settle). A ready pair leads to the pairs of its
+-- parts, or fails a demand, or has a fault (steps).
+use Rattle.std.specs.Prelude.{◌≡◌, ◌<◌, ◌≤◌, ℕ, List, [], ◌∷◌, Bool, true, false, Result, Ok, Err, Option, Some, None}
+use Rattle.std.specs.List.{AllByRecursion}
+
+-- The first that isn't so, or can't be told, is the answer.
+abbrev pub and_then : {F : Type 0} → Result Bool F → Result Bool F → Result Bool F
+and_then (Ok true) later = later
+and_then (Ok false) later = Ok false
+and_then (Err f) later = Err f
+
+-- each pair passes
+abbrev pub passes : {P F : Type 0} → (P → Result Bool F) → List P → Result Bool F
+passes test [] = Ok true
+passes test (p ∷ ps) = and_then (test p) (passes test ps)
+
+module _ {P Q F : Type 0} (settle : P → Result Q F) (steps : Q → Result (Option (List P)) F) where
+  -- a ready pair passes where its parts do
+  abbrev pub by_parts : (P → Result Bool F) → Result (Option (List P)) F → Result Bool F
+  by_parts test (Err f) = Err f
+  by_parts test (Ok None) = Ok false
+  by_parts test (Ok (Some parts)) = passes test parts
+
+  abbrev pub by_level : (P → Result Bool F) → Result Q F → Result Bool F
+  by_level test (Err f) = Err f
+  by_level test (Ok q) = by_parts test (steps q)
+
+  -- A test that goes level by level, at pairs of one kind. No pair leads to itself: each part is smaller than what it
+  -- is a part of.
+  pub record Levels : Type 0 where
+    pub holds : P → Bool
+    pub test : P → Result Bool F
+    pub size : P → ℕ
+    pub ready_size : Q → ℕ
+    pub level : (p : P) → holds p ≡ true → test p ≡ by_level test (settle p)
+    pub settled : (p : P) (q : Q) → holds p ≡ true → settle p ≡ Ok q → ready_size q ≤ size p
+    pub parts : (p : P) (q : Q) (parts : List P) → holds p ≡ true → settle p ≡ Ok q → steps q ≡ Ok (Some parts)
+        → AllByRecursion (λ part. (holds part ≡ true) × (size part < ready_size q)) parts
