@@ -5,6 +5,7 @@
 mod files;
 mod parsed;
 mod rules;
+mod source;
 mod spots;
 mod tops;
 mod types;
@@ -13,6 +14,7 @@ mod visitor;
 pub use files::{visit_file, visit_files};
 pub use parsed::ParsedFile;
 pub use rules::{Rule, first_place};
+pub use source::Source;
 pub use spots::{Role, Spot, Zone};
 pub use tops::visit_top;
 pub use types::{visit_expr, visit_sig, visit_type};
