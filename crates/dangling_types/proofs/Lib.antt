@@ -1,0 +1,6 @@
+mod ListLemmas
+mod SearchLemmas
+mod FirstLemmas
+mod NodeLemmas
+mod KnowingLemmas
+mod LawLemmas

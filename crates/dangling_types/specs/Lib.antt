@@ -1,0 +1,4 @@
+pub mod FirstDangling
+pub mod NodeReferences
+pub mod Findings
+pub mod Searching
