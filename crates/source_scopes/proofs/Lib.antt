@@ -1,1 +1,3 @@
 pub mod ScopeLaws
+pub mod TableLaws
+pub mod OutsideLaws

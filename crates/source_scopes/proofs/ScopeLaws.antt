@@ -3,8 +3,10 @@ use Rattle.std.proofs.Common.{◌≡◌, ◌≢◌, ℕ, suc, Bool, true, false,
 use Rattle.std.specs.Cmp.Lexicographic.{bytes_decides}
 use Rattle.universe_names.specs.Universe.{standing_for, universe}
 use Rattle.universe_names.specs.declared.names.Predeclared.{Predeclared}
-use Rattle.source_scopes.specs.Scopes.{Scopes, Meaning, Means, IsNone, StandsFirst, parameter_names, object_names, import_names}
-use Rattle.source_scopes.specs.Scopes.{a_parameter, an_object, a_package, foreign, predeclared, by_parameter, by_object, by_import, by_universe}
+use Rattle.source_scopes.specs.declared.looking.Meaning.{Meaning}
+use Rattle.source_scopes.specs.declared.looking.Meaning.TheVariants.{Parameter as a_parameter, Object as an_object, Package as a_package, Predeclared as predeclared}
+use Rattle.source_scopes.specs.Scopes.{Scopes, Means, IsNone, StandsFirst, parameter_names, object_names, import_names}
+use Rattle.source_scopes.specs.Scopes.{by_parameter, by_object, by_import, by_universe}
 use Rattle.source_scopes.specs.Scopes.{blank, position, in_universe, or_universe, or_import, or_object, meaning}
 
 -- ---- equal texts

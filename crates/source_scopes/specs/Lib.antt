@@ -1,3 +1,5 @@
 pub mod Objects
+pub mod Imports
 pub mod Scopes
+pub mod Tables
 pub mod Rows

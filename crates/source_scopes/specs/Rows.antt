@@ -3,7 +3,8 @@
 use Rattle.std.specs.Prelude.{ℕ, Bool, true, false, if◌then◌else◌, List, [], ◌∷◌, Option, Some, None, codes}
 use Rattle.std.specs.Str.{bytes_eq}
 use Rattle.source_trees.specs.Words.{Word}
-use Rattle.source_scopes.specs.Objects.{Object, Imported, a_constant, a_type, object}
+use Rattle.source_scopes.specs.declared.objects.ObjectKind.TheVariants.{Constant as a_constant, Defined as a_type}
+use Rattle.source_scopes.specs.Objects.{Object, Imported, object}
 use Rattle.source_scopes.specs.Scopes.{Scopes}
 
 abbrev pub word_of : List ℕ → Word

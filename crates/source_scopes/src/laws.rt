@@ -1,8 +1,12 @@
 ghost use Rattle.std.specs.Prelude.{◌≡◌, ℕ, List, Some, None, codes};
 ghost use Rattle.code_tables.specs.declared.predeclared.Basic.TheVariants as basic;
 ghost use Rattle.universe_names.specs.declared.names.Predeclared.TheVariants.{Basic};
-ghost use Rattle.source_scopes.specs.Scopes.{Scopes, Meaning, Means, meaning, written_meaning};
-ghost use Rattle.source_scopes.specs.Scopes.{a_parameter, an_object, a_package, foreign, predeclared};
+ghost use Rattle.source_scopes.specs.Scopes.{Scopes, Means, meaning, resolved_by};
+ghost use Rattle.source_scopes.specs.declared.looking.Resolution.TheVariants.{Unknown, NoPackage, Own, Foreign};
+ghost use Rattle.source_scopes.specs.declared.looking.Meaning.{Meaning};
+ghost use Rattle.source_scopes.specs.declared.looking.Meaning.TheVariants.{Parameter as a_parameter};
+ghost use Rattle.source_scopes.specs.declared.looking.Meaning.TheVariants.{Object as an_object, Package as a_package};
+ghost use Rattle.source_scopes.specs.declared.looking.Meaning.TheVariants.{Predeclared as predeclared};
 ghost use Rattle.source_scopes.specs.Rows.{word_of, example, offers};
 
 /// A name means one thing at most, and this is what is found by looking for it from the innermost scope outwards.
@@ -21,10 +25,9 @@ pub fn worked_rows()
     ensures universe { meaning example (codes "string") ≡ Some (predeclared (Basic basic.String)) }
     ensures blank { meaning example (codes "_") ≡ None }
     ensures unknown { meaning example (codes "x") ≡ None }
-    ensures offered { written_meaning offers example (Some (word_of (codes "m"))) (word_of (codes "Pi"))
-        ≡ Some (foreign (codes "math") (codes "Pi")) }
-    ensures not_offered { written_meaning offers example (Some (word_of (codes "m"))) (word_of (codes "E")) ≡ None }
-    ensures no_package { written_meaning offers example (Some (word_of (codes "T"))) (word_of (codes "Pi")) ≡ None }
-    ensures pointer { written_meaning offers example (Some (word_of (codes "u"))) (word_of (codes "Pointer"))
-        ≡ Some (predeclared (Basic basic.UnsafePointer)) }
+    ensures offered { resolved_by offers example (Some (word_of (codes "m"))) (word_of (codes "Pi")) ≡ Foreign 0 }
+    ensures not_offered { resolved_by offers example (Some (word_of (codes "m"))) (word_of (codes "E")) ≡ Unknown }
+    ensures no_package { resolved_by offers example (Some (word_of (codes "T"))) (word_of (codes "Pi")) ≡ NoPackage }
+    ensures pointer { resolved_by offers example (Some (word_of (codes "u"))) (word_of (codes "Pointer"))
+        ≡ Own (predeclared (Basic basic.UnsafePointer)) }
 {}
