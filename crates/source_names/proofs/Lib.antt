@@ -1,1 +1,4 @@
 pub mod VarTypeLaws
+pub mod RowLaws
+pub mod WordLaws
+pub mod PlaceLaws

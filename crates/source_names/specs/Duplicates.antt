@@ -1,9 +1,10 @@
 -- Names that are declared twice, or that may not be declared.
-use Rattle.std.specs.Prelude.{ℕ, suc, Bool, true, false, if◌then◌else◌, List, [], ◌∷◌, ◌++◌, Option, Some, None, map}
+use Rattle.std.specs.Prelude.{ℕ, suc, Bool, true, false, ◌&&◌, if◌then◌else◌, List, [], ◌∷◌, ◌++◌, Option}
+use Rattle.std.specs.Prelude.{Some, None, map, flat_map}
 use Rattle.std.specs.Str.{bytes_eq}
 use Rattle.go_type_syntax.specs.PlainTypes as t
-use Rattle.go_type_syntax.specs.PlainTypes.{PlainParams, PlainFields, PlainElems, PlainElem, signature}
-use Rattle.go_type_syntax.specs.PlainTypes.{no_param}
+use Rattle.go_type_syntax.specs.PlainTypes.{PlainParams, PlainParam, PlainFields, PlainField, PlainElems, PlainElem}
+use Rattle.go_type_syntax.specs.PlainTypes.{signature, no_param}
 use Rattle.go_type_syntax.specs.PlainTypes.{and_param, sharing, no_field, and_field, having, no_elem, and_elem, method}
 use Rattle.go_type_syntax.specs.PlainTypes.{embedded}
 use Rattle.source_places.specs.declared.places.Place.{Place}
@@ -13,17 +14,20 @@ use Rattle.repeated_names.specs.Repeats.{repeats, clashes}
 use Rattle.source_trees.specs.declared.literals.Literal.{Literal}
 use Rattle.source_trees.specs.Trees.{WrittenType, WrittenSig}
 use Rattle.source_trees.specs.Words.{Word}
-use Rattle.source_trees.specs.Files.{WrittenImport, WrittenTParam, WrittenReceiver, WrittenTop, WrittenFile, constants}
-use Rattle.source_trees.specs.Files.{variables, defined, alias, func}
+use Rattle.source_trees.specs.Files.{WrittenImport, WrittenTParam, WrittenReceiver, WrittenFunc, WrittenTop, WrittenFile}
+use Rattle.source_trees.specs.Files.{constants, variables, defined, alias, func}
 use Rattle.source_walk.specs.Spots.{tparam_words, receiver_words}
 use Rattle.source_walk.specs.Visits.{Visit, a_file, a_top, a_type, an_expr, files_visits}
 use Rattle.source_names.specs.Names.{init, word_place, words_at, files_named}
 
 -- ---- lists of names in a declaration
 
+abbrev pub param_words : PlainParam Word Literal → List Word
+param_words (sharing names variadic ty at) = names
+
 abbrev pub params_words : PlainParams Word Literal → List Word
 params_words no_param = []
-params_words (and_param (sharing names variadic ty at) ps) = names ++ params_words ps
+params_words (and_param p ps) = param_words p ++ params_words ps
 
 -- the name of a type that is written with its name alone, without a package
 abbrev pub named_word : WrittenType → List Word
@@ -35,13 +39,16 @@ abbrev pub embedded_word : WrittenType → List Word
 embedded_word (t.pointer ty at) = named_word ty
 embedded_word ty = named_word ty
 
-abbrev pub field_words : List Word → WrittenType → List Word
-field_words [] ty = embedded_word ty
-field_words (w ∷ ws) ty = w ∷ ws
+abbrev pub names_or_embedded : List Word → WrittenType → List Word
+names_or_embedded [] ty = embedded_word ty
+names_or_embedded (w ∷ ws) ty = w ∷ ws
+
+abbrev pub field_words : PlainField Word Literal → List Word
+field_words (having names ty tag at) = names_or_embedded names ty
 
 abbrev pub fields_words : PlainFields Word Literal → List Word
 fields_words no_field = []
-fields_words (and_field (having names ty tag at) fs) = field_words names ty ++ fields_words fs
+fields_words (and_field f fs) = field_words f ++ fields_words fs
 
 abbrev pub elem_words : PlainElem Word Literal → List Word
 elem_words (method name sig at) = name ∷ []
@@ -63,50 +70,61 @@ in_type file (t.struct fields at) = repeats (words_at file (fields_words fields)
 in_type file (t.interface elems at) = repeats (words_at file (methods_words elems))
 in_type file _ = []
 
+abbrev pub in_func : ℕ → WrittenFunc → List Place
+in_func file f =
+    repeats (words_at file (receiver_words f.receiver)) ++ repeats (words_at file (tparam_words f.tparams))
+    ++ in_sig file f.sig
+
 abbrev pub in_top : ℕ → WrittenTop → List Place
 in_top file (constants c) = []
 in_top file (variables v) = []
 in_top file (defined d) = repeats (words_at file (tparam_words d.tparams))
 in_top file (alias d) = repeats (words_at file (tparam_words d.tparams))
-in_top file (func f) =
-    repeats (words_at file (receiver_words f.receiver)) ++ repeats (words_at file (tparam_words f.tparams))
-    ++ in_sig file f.sig
+in_top file (func f) = in_func file f
 
 -- ---- names called `init`
 
+abbrev pub init_at : ℕ → Word → List Place
+init_at file w = if bytes_eq w.text init then (word_place file w ∷ []) else []
+
 abbrev pub inits : ℕ → List Word → List Place
-inits file [] = []
-inits file (w ∷ ws) =
-    (if bytes_eq w.text init then word_place file w ∷ [] else []) ++ inits file ws
+inits file words = flat_map (init_at file) words
+
+abbrev pub no_tparams : List WrittenTParam → Bool
+no_tparams [] = true
+no_tparams (p ∷ ps) = false
+
+abbrev pub no_params : PlainParams Word Literal → Bool
+no_params no_param = true
+no_params (and_param p ps) = false
 
 abbrev pub is_bare : List WrittenTParam → WrittenSig → Bool
-is_bare [] (signature no_param no_param at) = true
-is_bare _ _ = false
+is_bare tparams (signature ps rs at) = no_tparams tparams && no_params ps && no_params rs
 
 -- a function `init` with type parameters, parameters or results
 abbrev pub func_inits : ℕ → Option WrittenReceiver → Bool → Word → List Place
 func_inits file (Some r) bare name = []
 func_inits file None true name = []
-func_inits file None false name = inits file (name ∷ [])
+func_inits file None false name = init_at file name
 
 abbrev pub top_inits : ℕ → WrittenTop → List Place
 top_inits file (constants c) = inits file c.names
 top_inits file (variables v) = inits file v.names
-top_inits file (defined d) = inits file (d.name ∷ [])
-top_inits file (alias d) = inits file (d.name ∷ [])
+top_inits file (defined d) = init_at file d.name
+top_inits file (alias d) = init_at file d.name
 top_inits file (func f) = func_inits file f.receiver (is_bare f.tparams f.sig) f.name
 
-abbrev pub renamed : List WrittenImport → List Word
-renamed [] = []
-renamed (i ∷ is) = by_name i.name ++ renamed is
-  where
-    by_name : Option Word → List Word
-    by_name (Some w) = w ∷ []
-    by_name None = []
+abbrev pub import_init : ℕ → Option Word → List Place
+import_init file (Some w) = init_at file w
+import_init file None = []
+
+-- imports that are given this name
+abbrev pub import_inits : ℕ → List WrittenImport → List Place
+import_inits file imports = flat_map (λ i. import_init file i.name) imports
 
 -- at a visit: in a struct, an interface, a signature or a list of type parameters, and names called `init`
 abbrev pub duplicates_at : Visit → List Place
-duplicates_at (a_file n f) = inits n (renamed f.imports)
+duplicates_at (a_file n f) = import_inits n f.imports
 duplicates_at (a_top s top) = in_top s.file top ++ top_inits s.file top
 duplicates_at (a_type s w ty) = in_type s.file ty
 duplicates_at (an_expr s w e) = []
@@ -114,14 +132,13 @@ duplicates_at (an_expr s w e) = []
 -- ---- imports
 
 -- the word that an import declares in its file: its own name, or that of the package, at the path
+abbrev pub import_word : ℕ → Option Word → Option (List ℕ) → List Word
+import_word at (Some w) found = w ∷ []
+import_word at None (Some name) = record { text = name; at = at } ∷ []
+import_word at None None = []
+
 abbrev pub import_words : (List ℕ → Option (List ℕ)) → List WrittenImport → List Word
-import_words package_name [] = []
-import_words package_name (i ∷ is) = of_name i.name (package_name i.path) ++ import_words package_name is
-  where
-    of_name : Option Word → Option (List ℕ) → List Word
-    of_name (Some w) found = w ∷ []
-    of_name None (Some name) = record { text = name; at = i.at } ∷ []
-    of_name None None = []
+import_words package_name imports = flat_map (λ i. import_word i.at i.name (package_name i.path)) imports
 
 -- the names that the imports of each file declare, file by file
 abbrev pub imports_named : (List ℕ → Option (List ℕ)) → ℕ → List WrittenFile → List (List Named)
@@ -132,20 +149,29 @@ imports_named package_name n (f ∷ fs) =
 -- ---- package clauses
 
 -- the names in package clauses that differ from this one
+abbrev pub other_package : List ℕ → ℕ → WrittenFile → List Place
+other_package name n f = if bytes_eq f.name.text name then [] else (word_place n f.name ∷ [])
+
 abbrev pub other_packages : List ℕ → ℕ → List WrittenFile → List Place
 other_packages name n [] = []
-other_packages name n (f ∷ fs) =
-    (if bytes_eq f.name.text name then [] else word_place n f.name ∷ []) ++ other_packages name (suc n) fs
+other_packages name n (f ∷ fs) = other_package name n f ++ other_packages name (suc n) fs
 
+abbrev pub first_clause : List WrittenFile → Option (List ℕ)
+first_clause [] = None
+first_clause (f ∷ fs) = Some f.name.text
+
+abbrev pub differing : Option (List ℕ) → List WrittenFile → List Place
+differing (Some name) files = other_packages name 0 files
+differing None files = []
+
+-- those that differ from that of the first file
 abbrev pub package_duplicates : List WrittenFile → List Place
-package_duplicates [] = []
-package_duplicates (f ∷ fs) = other_packages f.name.text 0 (f ∷ fs)
+package_duplicates files = differing (first_clause files) files
 
 -- ---- all of them
 
 abbrev pub visited : List Visit → List Place
-visited [] = []
-visited (v ∷ vs) = duplicates_at v ++ visited vs
+visited visits = flat_map duplicates_at visits
 
 -- All places of the files of a package, where the names of packages are given by their paths. The imports of a file
 -- are held against each other and against the names of the package.

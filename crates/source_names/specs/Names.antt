@@ -1,5 +1,5 @@
 -- The names that the files of a package declare, with their places.
-use Rattle.std.specs.Prelude.{ℕ, suc, if◌then◌else◌, List, [], ◌∷◌, ◌++◌, Option, Some, None, codes}
+use Rattle.std.specs.Prelude.{ℕ, suc, if◌then◌else◌, List, [], ◌∷◌, ◌++◌, Option, Some, None, codes, flat_map}
 use Rattle.std.specs.Str.{bytes_eq}
 use Rattle.source_places.specs.declared.places.Place.{Place}
 use Rattle.repeated_names.specs.Names.{Named}
@@ -20,10 +20,12 @@ word_place file w = record { file = file; at = w.at }
 abbrev pub word_at : ℕ → Word → Named
 word_at file w = record { place = word_place file w; text = w.text }
 
--- the words at their places, apart from those that are blank
+-- a word at its place, unless it is blank
+abbrev pub declared_at : ℕ → Word → List Named
+declared_at file w = if bytes_eq w.text blank then [] else (word_at file w ∷ [])
+
 abbrev pub words_at : ℕ → List Word → List Named
-words_at file [] = []
-words_at file (w ∷ ws) = if bytes_eq w.text blank then words_at file ws else (word_at file w ∷ words_at file ws)
+words_at file words = flat_map (declared_at file) words
 
 -- A method declares no name of the package, and neither does a function `init`.
 abbrev pub func_words : Option WrittenReceiver → Word → List Word
@@ -38,8 +40,7 @@ top_words (alias d) = d.name ∷ []
 top_words (func f) = func_words f.receiver f.name
 
 abbrev pub tops_named : ℕ → List WrittenTop → List Named
-tops_named file [] = []
-tops_named file (t ∷ ts) = words_at file (top_words t) ++ tops_named file ts
+tops_named file tops = words_at file (flat_map top_words tops)
 
 -- the names that the files of a package declare in it, where the first file has this number
 abbrev pub files_named : ℕ → List WrittenFile → List Named
