@@ -2,8 +2,10 @@
 """Counts the instructions of `exportdata show` by what they are for, on three files that Go's own exporter wrote.
 
 The files are made as bench/peer.py makes its file: `small` has many small declarations, `wide` ten structs with 2,000 fields and 2,000
-methods each, and `values` constants and instances of generic types. `valgrind --tool=callgrind` counts; what the compiler put into its
-caller counts with the caller. Build exportdata first, as README.md says; nothing is measured where Go, x/tools or valgrind is missing.
+methods each, and `values` constants and instances of generic types. `valgrind --tool=callgrind` counts, once all, once what is called in
+reading a declaration and once what is called in printing one; what is left is the session, the words and the output. Reading is told by
+its parts, and what the compiler put into its caller counts with the caller. Build exportdata first, as README.md says; nothing is
+measured where Go, x/tools or valgrind is missing.
 
 usage: bench/profile.py [PROGRAM]
 """
@@ -16,17 +18,21 @@ import tempfile
 
 from peer import build, source
 
+# The functions within which a declaration is read, and printed.
+READING = "session_env::session_env::read_counted*"
+PRINTING = "decl_text::rendering::put_decl*"
+
+# What the functions of reading are for: the first that fits.
 PARTS = [
     ("getting memory", r"malloc\.c:(?!_int_free|malloc_consolidate|unlink)|rattle_(re)?alloc|Vec::(grow|move_to)"),
     ("giving it back", r"free|malloc_consolidate|unlink_chunk|rattle_dealloc|drop|destroy|Destruct"),
-    ("words and main", r"exportdata::|command_words|Pattern|rattle_arg|utf8|exportdata_cmd"),
-    ("look-up", r"session_files::|session_env::|asked_names::|name_index|RefSliceOrd"),
     ("numbers", r"wire_bytes::(number|cursor)"),
-    ("texts", r"read_text|read_path|wire_bytes::text|file_parts"),
+    ("texts", r"read_text|read_path|wire_bytes::(text|strings)|file_parts|go_values::byte_list"),
     ("positions", r"read_pos|position_codec"),
-    ("descriptors", r"decl_reader::(reading|flat|block|declaration|descent|table|demands)|btree"),
-    ("nodes", r"type_terms|decl_reader::nodes|indexmap|hash"),
-    ("printing", r"decl_text|itoa"),
+    ("places", r"decl_reader::(places|table|reading::Reading::known_at)|btree|arrayvec"),
+    ("nodes", r"type_terms|decl_reader::nodes|indexmap|hash|smallvec"),
+    ("descriptors", r"decl_reader|block_reader|session_env"),
+    ("basic types", r"session_files|RefSliceOrd"),
     ("copying bytes", r"memcpy|memmove|memset|Vec::extend"),
 ]
 
@@ -57,13 +63,26 @@ def values(count):
     return "\n".join(lines), names
 
 
-def counts(program, path, names, folder):
-    """The instructions of each function."""
+def counts(program, path, names, folder, within=None):
+    """The instructions of each function, of all that runs or of what is called within one."""
     out = os.path.join(folder, "callgrind.out")
-    command = ["valgrind", "--tool=callgrind", "--callgrind-out-file=" + out, program, "show", "f:p=" + path, "--"] + ["p:" + name for name in names]
+    command = ["valgrind", "--tool=callgrind", "--callgrind-out-file=" + out] + (["--toggle-collect=" + within] if within else [])
+    command += [program, "show", "f:p=" + path, "--"] + ["p:" + name for name in names]
     subprocess.run(command, stdout=subprocess.DEVNULL, stderr=subprocess.DEVNULL, check=True)
     text = subprocess.run(["callgrind_annotate", "--threshold=100", out], capture_output=True, text=True, check=True).stdout
     return [(int(number.replace(",", "")), what) for number, what in re.findall(r"^ *([\d,]+) \([^)]*\)  (\S+:.*?)(?: \[.*)?$", text, re.M)]
+
+
+def total(counted):
+    return sum(number for number, _ in counted)
+
+
+def parts(counted):
+    """The instructions of each part of reading."""
+    sums = dict.fromkeys([name for name, _ in PARTS] + ["other"], 0)
+    for number, what in counted:
+        sums[next((name for name, pattern in PARTS if re.search(pattern, what)), "other")] += number
+    return sums
 
 
 def main():
@@ -79,13 +98,12 @@ def main():
             with open(go, "w") as out:
                 out.write(text)
             subprocess.run([peer, "write", go, path], check=True)
-            size, sums, all_of = os.path.getsize(path), dict.fromkeys([name for name, _ in PARTS] + ["other"], 0), 0
-            for number, what in counts(program, path, names, folder):
-                part = next((name for name, pattern in PARTS if re.search(pattern, what)), "other")
-                sums[part] += number
-                all_of += number
-            print(f"{kind}: {size} bytes, {len(names)} names, {all_of / size:.0f} instructions a byte")
-            print("  " + "; ".join(f"{name} {number / size:.1f}" for name, number in sums.items()))
+            size = os.path.getsize(path)
+            every, read, printed = (counts(program, path, names, folder, within) for within in (None, READING, PRINTING))
+            rest = total(every) - total(read) - total(printed)
+            print(f"{kind}: {size} bytes, {len(names)} names, {total(every) / size:.1f} instructions a byte: reading {total(read) / size:.1f}, "
+                  f"printing {total(printed) / size:.1f}, session, words and output {rest / size:.1f}")
+            print("  reading: " + "; ".join(f"{name} {number / size:.1f}" for name, number in parts(read).items()))
 
 
 main()
