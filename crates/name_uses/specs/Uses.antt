@@ -1,6 +1,6 @@
 -- Names that mean nothing where they stand, or another thing than is wanted there.
-use Rattle.std.specs.Prelude.{ℕ, if◌then◌else◌, Bool, true, false, not, is_some, List, [], ◌∷◌, ◌++◌, Option, Some, None}
-use Rattle.std.specs.Prelude.{map, flat_map}
+use Rattle.std.specs.Prelude.{ℕ, if◌then◌else◌, Bool, true, false, not, is_some, List, [], ◌∷◌, ◌++◌, Option}
+use Rattle.std.specs.Prelude.{Some, None, map, flat_map}
 use Rattle.go_expr_syntax.specs.PlainExprs.{PlainName, named, convert}
 use Rattle.go_type_syntax.specs.PlainTypes as t
 use Rattle.go_type_syntax.specs.PlainTypes.{no_type, type_place}

@@ -131,7 +131,7 @@ impl<'s, P: Packages, C: Copy + Drop> NameUses<'s, P, C> {
         }
     }
 
-    /// The place of the declaration with this number that has the fault, apart from the types and the expressions in it.
+    /// The place of the declaration with this number that has the fault, apart from the types and expressions in it.
     fn top_place(&self, source: Source<'_>, number: usize, top: &Top) -> Option<Found<C>>
         ensures { (all : List TopTree) (k : ℕ) → result ≡ least (map (found_at self.now.cause)
             (in_top self.now.fault

@@ -14,7 +14,8 @@ use Rattle.repeated_names.specs.Repeats.{repeats, clashes}
 use Rattle.source_trees.specs.declared.literals.Literal.{Literal}
 use Rattle.source_trees.specs.Trees.{WrittenType, WrittenSig}
 use Rattle.source_trees.specs.Words.{Word}
-use Rattle.source_trees.specs.Files.{WrittenImport, WrittenTParam, WrittenReceiver, WrittenFunc, WrittenTop, WrittenFile}
+use Rattle.source_trees.specs.Files.{WrittenImport, WrittenTParam, WrittenReceiver, WrittenFunc, WrittenTop}
+use Rattle.source_trees.specs.Files.{WrittenFile}
 use Rattle.source_trees.specs.Files.{constants, variables, defined, alias, func}
 use Rattle.source_walk.specs.Spots.{tparam_words, receiver_words}
 use Rattle.source_walk.specs.Visits.{Visit, a_file, a_top, a_type, an_expr, files_visits}

@@ -213,7 +213,8 @@ fn add_func<'s>(
     names: &mut Vec<NameAt<'s>>,
 ) -> Result<(), AllocError>
     ensures { OnOk result (map named names.new.items ≡ map named names.old.items ++ words_at source.entry.file
-        (func_words (receiver_if_any source.entry.bytes.now func.now.receiver) (word source.entry.bytes.now func.now.name))) }
+        (func_words (receiver_if_any source.entry.bytes.now func.now.receiver)
+        (word source.entry.bytes.now func.now.name))) }
 {
     if func.receiver.is_some() || source.text(&func.name) == b"init".as_slice() {
         return Ok(());

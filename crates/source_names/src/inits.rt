@@ -7,7 +7,8 @@ ghost use Rattle.source_trees.specs.Files.{receiver_if_any, written_import, writ
 ghost use Rattle.source_trees.specs.Trees.{written_param, written_sig};
 ghost use Rattle.go_type_syntax.specs.PlainTypes.{params_of};
 ghost use Rattle.source_trees.specs.Words.{word};
-ghost use Rattle.source_names.specs.Duplicates.{init_at, inits, import_init, import_inits, is_bare, no_params, no_tparams};
+ghost use Rattle.source_names.specs.Duplicates.{init_at, inits, import_init, import_inits, is_bare, no_params};
+ghost use Rattle.source_names.specs.Duplicates.{no_tparams};
 ghost use Rattle.source_names.specs.Duplicates.{func_inits, top_inits};
 
 use go_syntax::{FuncDecl, Ident, Import, ParamExpr, TParam, Top};

@@ -112,8 +112,8 @@ impl<'s> PackageScopes<'s> {
     }
 
     /// What a name means that stands alone in the declaration with this number, in the file with this number: the first
-    /// thing of that name, from the innermost scope outwards (docs/LANGUAGE.md, What a name means). It takes the time of
-    /// three look-ups by hash.
+    /// thing of that name, from the innermost scope outwards (docs/LANGUAGE.md, What a name means). It takes the time
+    /// of three look-ups by hash.
     pub fn meaning(&self, file: usize, top: usize, text: &[u8]) -> Option<Meaning>
         ensures { result ≡ meaning (scopes_at self.now file top) text.now }
     {

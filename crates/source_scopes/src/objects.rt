@@ -92,7 +92,8 @@ fn add_top<'s>(
     objects: &mut Vec<Item<'s, ObjectAt>>,
 ) -> Result<(), AllocError>
     ensures { (all : List TopTree) (k : ℕ) → OnOk result (map object_at objects.new.items
-        ≡ map object_at objects.old.items ++ top_objects source.entry.file (written_top source.entry.bytes.now all k top.now)) }
+        ≡ map object_at objects.old.items
+        ++ top_objects source.entry.file (written_top source.entry.bytes.now all k top.now)) }
 {
     match top {
         Top::Constant(constants) => add_all(
