@@ -5,3 +5,4 @@ mod ChildLemmas
 mod SearchLemmas
 mod MadeLemmas
 mod MakingLemmas
+mod DeclLemmas

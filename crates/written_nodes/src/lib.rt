@@ -1,6 +1,7 @@
 //! Nodes of what an exporter writes of types.
 #![tactic(auto)]
 
+mod declarations;
 mod elements;
 mod laws;
 mod methods;

@@ -8,7 +8,7 @@ use crate::positions::position_written;
 use go_values::Bytes;
 use indexmap::IndexMap;
 use std::alloc::{AllocError, Global};
-use type_terms::{Field, IMethod, NodeId, Origin, ParamNode, Params, Sig, Term};
+use type_terms::{Field, IMethod, Method, NodeId, Origin, ParamNode, Params, Sig, Term};
 
 /// For nodes of one arena, the nodes of another that were made for them.
 pub(crate) type Made = IndexMap<NodeId, NodeId>;
@@ -98,6 +98,23 @@ impl Part for IMethod {
             origin: no_origin(alloc),
             pos: position_written(&self.pos)?,
             name: self.name.clone()?,
+            sig,
+        })
+    }
+}
+
+impl Part for Method {
+    ghost use Rattle.written_nodes.specs.Making.{receiver_made};
+
+    ghost with = { receiver_made };
+
+    fn written(&self, alloc: Global, made: &Made) -> Result<Method, AllocError> {
+        let recv = self.recv.written(alloc, made)?;
+        let sig = sig_written(alloc, &self.sig, made)?;
+        Ok(Method {
+            pos: position_written(&self.pos)?,
+            name: self.name.clone()?,
+            recv,
             sig,
         })
     }

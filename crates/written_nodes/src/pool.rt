@@ -2,19 +2,22 @@
 
 ghost use Rattle.std.specs.Prelude.{◌≡◌, ◌<◌, [], ℕ, List, Some, length, OnOk, OnErr, IfOk};
 ghost use Rattle.type_terms.specs.declared.descriptors.Node.{Node as Descriptor};
-ghost use Rattle.type_terms.specs.Arenas.{IsArena, Extends};
+ghost use Rattle.std.specs.List.{AllByRecursion};
+ghost use Rattle.type_terms.specs.Arenas.{AllBelow, IsArena, Extends};
+ghost use Rattle.type_terms.specs.Declarations.{decl_nodes, decl_of};
 ghost use Rattle.type_terms.specs.Denotation.{tree};
-ghost use Rattle.written_types.specs.Written.{full, written};
+ghost use Rattle.written_types.specs.Written.{full, written, decl_written};
 ghost use Rattle.written_nodes.specs.Pools.{made_for, IsPoolOf, AreWritten, IsMade, HasChildren, Grows};
 ghost use Rattle.written_nodes.specs.Searching.{Notes};
 
+use crate::declarations::declaration_written;
 use crate::nodes::node_written;
 use crate::parts::{Made, number_for};
 use crate::reaching::wanted;
 use indexmap::IndexMap;
 use std::alloc::{AllocError, Global};
 use std::marker::Model;
-use type_terms::{Arena, MAX_NODES, NodeId};
+use type_terms::{Arena, DeclNode, MAX_NODES, NodeId, push_decl};
 
 /// Nodes of what is written of types, in an arena of their own: two types are one descriptor of a file exactly where
 /// one node was made for both. A contract sees this arena, and for which nodes of another one each was made.
@@ -75,6 +78,42 @@ impl WrittenNodes {
             make(alloc, arena, &mut self.nodes, &mut self.made, next)?;
         }
         Ok(number_for(&self.made, id))
+    }
+
+    /// What is written of a declaration, over the nodes of what is written of its types. All calls are given the same
+    /// arena, as those of `write` are. Takes time and memory for the declaration, and for its types as `write` does.
+    pub fn write_declaration(
+        &mut self,
+        alloc: Global,
+        arena: &Arena,
+        decl: &DeclNode,
+    ) -> Result<DeclNode, AllocError>
+        requires there { AllBelow (length arena.now.nodes) (decl_nodes decl.now) }
+        requires pool { IsPoolOf arena.now.nodes self.old }
+        ensures denotes { IfOk result (λ own. decl_of self.new.nodes.nodes own
+            ≡ decl_written full (decl_of arena.now.nodes decl.now)) }
+        ensures within { IfOk result (λ own. AllBelow (length self.new.nodes.nodes) (decl_nodes own)) }
+        ensures pool { IsPoolOf arena.now.nodes self.new }
+        ensures grows { Grows self.old self.new }
+    {
+        let mut types = Vec::new(alloc);
+        push_decl(decl, &mut types)?;
+        self.write_all(alloc, arena, &types)?;
+        declaration_written(alloc, decl, &self.made)
+    }
+
+    /// Makes nodes for some of an arena.
+    fn write_all(&mut self, alloc: Global, arena: &Arena, ids: &[NodeId]) -> Result<(), AllocError>
+        requires there { AllBelow (length arena.now.nodes) ids.now }
+        requires pool { IsPoolOf arena.now.nodes self.old }
+        ensures made { OnOk result (AllByRecursion (IsMade self.new.made) ids.now) }
+        ensures pool { IsPoolOf arena.now.nodes self.new }
+        ensures grows { Grows self.old self.new }
+    {
+        for id in ids {
+            self.write(alloc, arena, *id)?;
+        }
+        Ok(())
     }
 }
 
