@@ -1,5 +1,5 @@
 mod CommonLemmas
-mod FoundLemmas
-mod LoopLemmas
+pub mod FoundLemmas
+pub mod LoopLemmas
 mod OneTurns
 mod ListsTurns

@@ -1,0 +1,5 @@
+mod KnownLemmas
+mod SumLemmas
+mod EventLemmas
+mod TurnLemmas
+mod MeetLemmas

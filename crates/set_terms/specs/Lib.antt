@@ -1,0 +1,4 @@
+pub mod Needed
+pub mod Shares
+pub mod Known
+pub mod Meant
