@@ -1,0 +1,4 @@
+mod ZipLemmas
+mod ReadingLemmas
+mod RoleLemmas
+mod JudgingLemmas
