@@ -2,7 +2,7 @@
 use Rattle.std.proofs.Common.{◌≡◌, Bool, List, [], ◌∷◌, Ok, Err, refl, ap, sym, subst, ◌∙◌, inl, inr}
 use Rattle.std.specs.Prelude.{Result, IsOkAnd}
 use Rattle.interface_opening.specs.Elements.{Term, Event, has_term, has_interface, ends_element}
-use Rattle.interface_opening.specs.Terms.{Choice, Sum, ◌>>=◌, meet, with_whole, sum_of, put_sum, happens, all_happen, terms_of}
+use Rattle.interface_opening.specs.Terms.{Sum, ◌>>=◌, meet, with_whole, sum_of, put_sum, happens, all_happen, terms_of}
 use Rattle.common_terms.proofs.LoopLemmas.{Comes, begins, goes}
 use Rattle.set_terms.specs.Needed.{changed, AtEvent, AtEvents}
 

@@ -1,6 +1,5 @@
 -- What the two sides of a comparison are, as they were taken from tables.
 use Rattle.std.proofs.Common.{◌≡◌, ℕ, Bool, List, [], Option, Some, Ok, Err, ap, sym, subst, ◌∙◌}
-use Rattle.std.specs.Prelude.{Result}
 use Rattle.go_values.specs.declared.qualified.QName.{QName}
 use Rattle.type_terms.specs.declared.literals.Term.{Term as Code}
 use Rattle.type_terms.specs.Arenas.{Contents}

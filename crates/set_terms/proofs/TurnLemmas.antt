@@ -1,6 +1,6 @@
 -- A turn of the loop over events.
 use Rattle.std.proofs.Common.{◌≡◌, ℕ, ◌<◌, ◌≤◌, zero, suc, Bool, List, [], ◌∷◌, length, map, drop, drop-cons, get_or, Option, Some, None, Ok, Err, refl, ap, sym, subst, ◌∙◌, arith}
-use Rattle.std.specs.Prelude.{Result, IfSome}
+use Rattle.std.specs.Prelude.{IfSome}
 use Rattle.std.specs.List.{AllByRecursion}
 use Rattle.go_values.specs.declared.qualified.QName.{QName}
 use Rattle.type_terms.specs.Arenas.{Contents, IsArena, Extends}
@@ -14,8 +14,8 @@ use Rattle.interface_opener.specs.declared.found.Event.{Event as Noted}
 use Rattle.interface_opener.specs.declared.found.Event.TheVariants.{Term as TermNoted, Interface, Ends}
 use Rattle.interface_opener.specs.Numbered.{event_of}
 use Rattle.interface_opening.specs.Elements.{Term, Event, has_term, has_interface, ends_element}
-use Rattle.interface_opening.specs.Mapped.{term_mapped, event_mapped}
-use Rattle.interface_opening.specs.Terms.{Choice, Sum, meet, with_union, with_whole, terms_of}
+use Rattle.interface_opening.specs.Mapped.{event_mapped}
+use Rattle.interface_opening.specs.Terms.{Sum, meet, with_union, with_whole, terms_of}
 use Rattle.interface_opening.specs.Terms as fold
 use Rattle.opened_interfaces.specs.Meant.{EventWithin}
 use Rattle.replacement.specs.declared.faults.SetFault.{SetFault}

@@ -1,9 +1,9 @@
-use Rattle.std.proofs.Common.{◌≡◌, ℕ, None, cond, ap, sym, subst, ◌∙◌}
+use Rattle.std.proofs.Common.{cond, ap, sym, subst, ◌∙◌}
 use Rattle.std.specs.Prelude.{IfSome, nat_eq}
 use Rattle.std.proofs.lemmas.Result.{err_from_is_err_and}
 use Rattle.common_terms.specs.Calls.{AllWithin}
 use Rattle.set_terms.specs.Known.{known_of}
-use Rattle.set_terms.specs.Shares.{listed, put, wholes_of}
+use Rattle.set_terms.specs.Shares.{listed}
 use Rattle.set_terms.proofs.KnownLemmas.{ended_holds}
 use Rattle.set_terms.proofs.MeetLemmas.{end_stops, end_kept}
 use Rattle.set_terms.proofs.meeting.end_element.Goals as goal
