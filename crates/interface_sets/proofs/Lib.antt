@@ -1,0 +1,5 @@
+mod MentionLemmas
+mod CoveredLemmas
+mod OpeningLemmas
+mod DefinedLemmas
+mod SetLemmas
