@@ -27,7 +27,7 @@ use Rattle.block_writer.specs.Putting.{items_texts}
 use Rattle.block_walk.specs.declared.section.Section.{Section}
 use Rattle.block_walk.specs.Steps.{Step, finish}
 use Rattle.block_walk.specs.Going.{Out, leaf_names, with_names, put_type, with_steps, went}
-use Rattle.block_walk.specs.Labels.{IsLabelled}
+use Rattle.block_walk.specs.Labels.{Labels, IsLabelled}
 use Rattle.block_walk.specs.NodeNames.{node_names}
 use Rattle.block_walk.specs.Standing.{Stands, HasRoom, Goes}
 use Rattle.block_walk.specs.Finishing.{IsPut}
@@ -135,6 +135,16 @@ size_of _ = 0
 
 -- ---- the section
 
+-- where the codes of types are set, their numbers are right
+pub all_numbered : (nodes : List Node) (old : Section) (labels : List ℕ) → Labels nodes old.numbers.items labels → (out : Out) → Stands nodes old out → (ids : List ℕ) → AllByRecursion (λ c. c < length nodes) ids
+    → AllByRecursion (IsLabelled nodes labels) ids → AllByRecursion (λ c. number_in out.written.blocks (tree nodes c) ≡ slice_index_or labels c 0) ids
+all_numbered nodes old labels set out stands [] below all = tt
+all_numbered nodes old labels set out stands (c ∷ cs) below all = (each (is_made (tree nodes c)) refl, all_numbered nodes old labels set out stands cs below.1 all.1)
+  where
+    each : (b : Bool) → is_made (tree nodes c) ≡ b → number_in out.written.blocks (tree nodes c) ≡ slice_index_or labels c 0
+    each true is = sym (stands.numbers c below.0 is) ∙ sym (set.kept c is)
+    each false is = number_code (tree nodes c) (start_of out.written.blocks (tree nodes c)) 0 is ∙ sym (all.0 is)
+
 module _ (nodes : List Node) (own : Text) (id : ℕ) where
   -- a descriptor that is placed is let be
   pub goes_placed : (section : Section) → HasRoom nodes section → id < length nodes → slice_index_or section.placed.items id false ≡ true → (left : List Step)
@@ -153,16 +163,6 @@ module _ (nodes : List Node) (own : Text) (id : ℕ) where
     type : Tree
     type = tree nodes id
 
-    -- the numbers of its types are right
-    all_numbered : (out : Out) → Stands nodes old out → (ids : List ℕ) → AllByRecursion (λ c. c < length nodes) ids → AllByRecursion (IsLabelled nodes put.labels) ids
-        → AllByRecursion (λ c. number_in out.written.blocks (tree nodes c) ≡ slice_index_or put.labels c 0) ids
-    all_numbered out stands [] below all = tt
-    all_numbered out stands (c ∷ cs) below all = (each (is_made (tree nodes c)) refl, all_numbered out stands cs below.1 all.1)
-      where
-        each : (b : Bool) → is_made (tree nodes c) ≡ b → number_in out.written.blocks (tree nodes c) ≡ slice_index_or put.labels c 0
-        each true is = sym (stands.numbers c below.0 is) ∙ sym (put.labelled.kept c is)
-        each false is = number_code (tree nodes c) (start_of out.written.blocks (tree nodes c)) 0 is ∙ sym (all.0 is)
-
     other_tree : (j : ℕ) → j < length nodes → (j ≡ id → ⊥) → same_tree (tree nodes j) (tree nodes id) ≡ false
     other_tree j below other = by (same_tree (tree nodes j) (tree nodes id)) refl
       where
@@ -177,7 +177,7 @@ module _ (nodes : List Node) (own : Text) (id : ℕ) where
         let offset = text_number (new.strings ++ more) in
         let blocks = out.written.blocks in
         let level = ap level_of put.denotes ∙ level_of-tree_of (retype (tree nodes) (node_shape put.node)) in
-        let puts = put.put (tree nodes) (number_in blocks) (all_numbered out stands (children put.node) put.below put.children) in
+        let puts = put.put (tree nodes) (number_in blocks) (all_numbered nodes old put.labels put.labelled out stands (children put.node) put.below put.children) in
         let unplaced : is_placed blocks (tree nodes id) ≡ false = sym (stands.placed id there) ∙ none in
         let itself = same_itself (tree nodes id) in
         let full : id < length put.labels = omega (arith, put.labelled.same, room.numbers, there) in

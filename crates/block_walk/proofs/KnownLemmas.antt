@@ -231,11 +231,11 @@ module _ (own : Text) (offset : Text → ℕ) where
 
   -- ---- the texts of a descriptor, behind its items
 
-  fold_said : (texts ts : List Text) → AllByRecursion (IsSaid texts) ts → fold with_text texts ts ≡ texts
+  pub fold_said : (texts ts : List Text) → AllByRecursion (IsSaid texts) ts → fold with_text texts ts ≡ texts
   fold_said texts [] all = refl
   fold_said texts (t ∷ ts) all = ap (λ (xs : List Text). fold with_text xs ts) (said_same texts t all.0) ∙ fold_said texts ts all.1
 
-  items_said : (out : Out) (go : Tree → List Event) (before : Place) (xs : List Item) → AllByRecursion (IsKnown own offset out) (items_events go before xs) → AllByRecursion (IsSaid out.texts) (items_texts own before xs)
+  pub items_said : (out : Out) (go : Tree → List Event) (before : Place) (xs : List Item) → AllByRecursion (IsKnown own offset out) (items_events go before xs) → AllByRecursion (IsSaid out.texts) (items_texts own before xs)
   items_said out go before [] all = tt
   items_said out go before (a_number n ∷ xs) all = items_said out go before xs all
   items_said out go before (a_flag x ∷ xs) all = items_said out go before xs all

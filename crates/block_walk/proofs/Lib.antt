@@ -8,3 +8,4 @@ mod FinishLemmas
 mod WeightLemmas
 mod WalkingLemmas
 mod RoomLemmas
+mod DeclaringLemmas

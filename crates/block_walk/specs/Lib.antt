@@ -7,3 +7,4 @@ pub mod Standing
 pub mod Finishing
 pub mod Weights
 pub mod Entering
+pub mod Declaring

@@ -3,12 +3,13 @@
 ghost use Rattle.std.specs.Prelude.{◌≡◌, ◌<◌, length, OnOk};
 ghost use Rattle.std.specs.List.{AllByRecursion};
 ghost use Rattle.type_terms.specs.Arenas.{AllBelow};
+ghost use Rattle.type_terms.specs.Declarations.{decl_nodes};
 ghost use Rattle.type_terms.specs.NodeShapes.{children};
 ghost use Rattle.block_walk.specs.Labels.{Labels, IsLabelled};
 
 use code_tables::basics;
 use std::alloc::{AllocError, Global};
-use type_terms::{Arena, Node, NodeId, push_children};
+use type_terms::{Arena, DeclNode, Node, NodeId, push_children, push_decl};
 
 /// Sets the numbers of the predeclared types that stand in a type.
 pub(crate) fn label_children(
@@ -25,6 +26,25 @@ pub(crate) fn label_children(
     let mut inner = Vec::new(alloc);
     push_children(node, &mut inner)?;
     label_all(nodes, &inner, numbers);
+    Ok(())
+}
+
+/// Sets the numbers of the predeclared types that stand in a declaration.
+pub(crate) fn label_types(
+    alloc: Global,
+    nodes: &Arena,
+    decl: &DeclNode,
+    numbers: &mut Vec<u64>,
+) -> Result<(), AllocError>
+    requires there { AllBelow (length nodes.now.nodes) (decl_nodes decl.now) }
+    requires room { length numbers.old.items ≡ length nodes.now.nodes }
+    ensures labels { Labels nodes.now.nodes numbers.old.items numbers.new.items }
+    ensures labelled { OnOk result (AllByRecursion (IsLabelled nodes.now.nodes numbers.new.items)
+        (decl_nodes decl.now)) }
+{
+    let mut types = Vec::new(alloc);
+    push_decl(decl, &mut types)?;
+    label_all(nodes, &types, numbers);
     Ok(())
 }
 

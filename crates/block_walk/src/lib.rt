@@ -1,6 +1,7 @@
 //! The walk in the order of writing, where what was written isn't gone through again.
 #![tactic(auto)]
 
+mod declaring;
 mod entering;
 mod finishing;
 mod labels;
