@@ -78,7 +78,7 @@ added_room from to es offset f ends all = added_all (λ e. (e.1.end ≤ from) �
 
 -- ---- in order
 
-is_less : (a b : ℕ) → nat_cmp a b ≡ Less → a < b
+pub is_less : (a b : ℕ) → nat_cmp a b ≡ Less → a < b
 is_less a b e = by (cases_lt a b)
   where
     by : (a < b) ⊎ (b ≤ a) → a < b
@@ -89,7 +89,7 @@ is_less a b e = by (cases_lt a b)
         more_by (inl less) = let no : Less ≡ Greater = sym e ∙ sym (nat_cmp_is a b Greater less) in absurd cc
         more_by (inr same) = let no : Less ≡ Equal = sym e ∙ sym (nat_cmp_is a b Equal (omega arith)) in absurd cc
 
-is_equal : (a b : ℕ) → nat_cmp a b ≡ Equal → a ≡ b
+pub is_equal : (a b : ℕ) → nat_cmp a b ≡ Equal → a ≡ b
 is_equal a b e = by (cases_lt a b) (cases_lt b a)
   where
     by : (a < b) ⊎ (b ≤ a) → (b < a) ⊎ (a ≤ b) → a ≡ b
@@ -97,7 +97,7 @@ is_equal a b e = by (cases_lt a b) (cases_lt b a)
     by (inr more) (inl less) = let no : Equal ≡ Greater = sym e ∙ sym (nat_cmp_is a b Greater less) in absurd cc
     by (inr more) (inr same) = omega arith
 
-is_greater : (a b : ℕ) → nat_cmp a b ≡ Greater → b < a
+pub is_greater : (a b : ℕ) → nat_cmp a b ≡ Greater → b < a
 is_greater a b e = by (cases_lt b a) (cases_lt a b)
   where
     by : (b < a) ⊎ (a ≤ b) → (a < b) ⊎ (b ≤ a) → b < a

@@ -3,6 +3,7 @@ pub mod PassTimesLemmas
 pub mod HeadLemmas
 pub mod StackedLemmas
 pub mod EntryLemmas
+pub mod ListedLemmas
 pub mod TableLemmas
 pub mod WantLemmas
 pub mod ResumeLemmas

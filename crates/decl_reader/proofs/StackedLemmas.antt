@@ -1,5 +1,6 @@
 -- Blocks in the order of their starts, none of which runs into the next one.
-use Rattle.std.proofs.Common.{◌≡◌, ℕ, ◌<◌, ◌≤◌, Bool, true, false, cond, not, List, [], ◌∷◌, ◌++◌, length, Option, Some, None, refl, sym, ap, subst, ◌∙◌, inl, inr, ◌⊎◌, arith, nat_lt, length-append}
+use Rattle.std.proofs.Common.{◌≡◌, ℕ, ◌<◌, ◌≤◌, Bool, true, false, cond, not, List, [], ◌∷◌, ◌++◌, length, Option, Some, None, refl, sym, ap, subst, ◌∙◌, inl, inr, ◌⊎◌, arith, nat_lt, length-append, take, drop}
+use Rattle.std.proofs.lemmas.List.{take-append-drop}
 use Rattle.std.specs.Prelude.{nat_le, ◌&&◌}
 use Rattle.std.specs.List.{AllByRecursion}
 use Rattle.std.specs.Ordering.{nat_cmp, is_lt, is_le}
@@ -8,7 +9,7 @@ use Rattle.std.specs.Cmp.{nat_cmp_is}
 use Rattle.std.proofs.lemmas.Bool.{cases_lt, lt-ltb, le-ltb, le-leb, lt-leb}
 use Rattle.type_terms.specs.Trees.{Tree}
 use Rattle.decl_spelling.specs.Tables.{free_to}
-use Rattle.decl_reader.specs.Places.{PlaceEntry, placed_of, IsStacked, up_to, from, Covers, StartsFirst}
+use Rattle.decl_reader.specs.Places.{PlaceEntry, placed_of, IsStacked, up_to, from, Covers, StartsFirst, IsDivided}
 
 -- each has a byte, and ends before those behind it start
 abbrev AreStacked : List PlaceEntry → Type 0
@@ -169,9 +170,38 @@ module _ (types : ℕ → Tree) (o limit : ℕ) where
       by (inl beyond_it) rest = past_entry b next e es beyond_it stacked.0 stacked.1 covers starts
       by (inr begun) rest = at_entry b next e es (up_to o es) refl begun stacked.0 stacked.1 covers starts rest
 
+  -- the same of a list of those that start at o or before it, and one of those behind it
+  free_divided : (b : Bool) (next : Option ℕ) (front rest : List PlaceEntry) → AreStacked (front ++ rest) → AllByRecursion (λ e. e.0 ≤ o) front → AllByRecursion (λ e. o < e.0) rest
+      → Covers b o front → StartsFirst next rest → Free b next (front ++ rest)
+  free_divided b next [] [] stacked low high covers starts =
+      ap (λ n. chosen false n o limit) (sym (no_start next [] refl starts)) ∙ ap (λ c. chosen c next o limit) (sym (no_cover b o [] refl covers))
+  free_divided b next [] (f ∷ fs) stacked low high covers starts =
+      behind f fs high.0 (omega (arith, high.0, stacked.0))
+      ∙ ap (λ n. chosen false n o limit) (sym (its_start next f fs starts))
+      ∙ ap (λ c. chosen c next o limit) (sym (no_cover b o [] refl covers))
+  free_divided b next (e ∷ []) rest stacked low high covers starts = by (cases_lt o e.1.end) (λ none. free_divided b next [] rest stacked.2 tt high (inl (refl, none)) starts)
+    where
+      alone : b ≡ nat_lt o e.1.end
+      alone = one_cover b o e covers
+
+      by : (o < e.1.end) ⊎ (e.1.end ≤ o) → (b ≡ false → Free b next rest) → Free b next (e ∷ rest)
+      by (inl ends) behind_it = inside e rest low.0 ends ∙ ap (λ c. chosen c next o limit) (sym (alone ∙ lt-ltb o e.1.end ends))
+      by (inr ended) behind_it = skipped e rest ended ∙ behind_it (alone ∙ le-ltb o e.1.end ended)
+  free_divided b next (e ∷ f ∷ fs) rest stacked low high covers starts =
+      skipped e (f ∷ fs ++ rest) (omega (arith, stacked.1.0, low.1.0)) ∙ free_divided b next (f ∷ fs) rest stacked.2 low.1 high (more_cover b o e f fs covers) starts
+
+  pub free_listed : (b : Bool) (next : Option ℕ) (n : ℕ) (es : List PlaceEntry) → IsDivided o n es → IsStacked (placed_of types es) → Covers b o (take n es) → StartsFirst next (drop n es)
+      → free_to o limit (placed_of types es) ≡ chosen b next o limit
+  free_listed b next n es divided stacked covers starts =
+      let whole = take-append-drop n es in
+      subst (Free b next) whole (free_divided b next (take n es) (drop n es) (subst AreStacked (sym whole) (stacked_places types es stacked)) divided.begun divided.later covers starts)
+
   some_start : (es : List PlaceEntry) → (next : Option ℕ) × StartsFirst next es
   some_start [] = (None, refl)
   some_start (e ∷ es) = (Some e.0, (e, es, refl, refl))
+
+  pub covered_listed : (n : ℕ) (es : List PlaceEntry) → IsDivided o n es → IsStacked (placed_of types es) → Covers true o (take n es) → o ≡ free_to o limit (placed_of types es)
+  covered_listed n es divided stacked covers = let next = some_start (drop n es) in sym (free_listed true next.0 n es divided stacked covers next.1)
 
   pub covered_is : (es : List PlaceEntry) → IsStacked (placed_of types es) → Covers true o (up_to o es) → o ≡ free_to o limit (placed_of types es)
   covered_is es stacked covers = let next = some_start (from o es) in sym (free_is true next.0 es (stacked_places types es stacked) covers next.1)

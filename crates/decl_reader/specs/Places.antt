@@ -1,6 +1,6 @@
 -- Where the descriptors stand that were read whole, as the code keeps it: by their offsets, each with its index; and
 -- which bytes those of a table have.
-use Rattle.std.specs.Prelude.{◌≡◌, ℕ, ◌+◌, ◌-◌, ◌<◌, ◌≤◌, ◌⊎◌, List, [], ◌∷◌, ◌++◌, map, Bool, false, nat_lt, Option}
+use Rattle.std.specs.Prelude.{◌≡◌, ℕ, ◌+◌, ◌-◌, ◌<◌, ◌≤◌, ◌⊎◌, List, [], ◌∷◌, ◌++◌, map, length, take, drop, insert, Bool, false, nat_lt, Option}
 use Rattle.std.specs.Prelude.{Some, None}
 use Rattle.std.specs.List.{AllByRecursion}
 use Rattle.std.specs.Map.{lookup}
@@ -56,6 +56,29 @@ abbrev pub StartsFirst : Option ℕ → List PlaceEntry → Type 0
 StartsFirst (Some start) entries =
     (first : PlaceEntry) × (rest : List PlaceEntry) × (entries ≡ first ∷ rest) × (start ≡ first.0)
 StartsFirst None entries = entries ≡ []
+
+-- ---- in a list or in a map
+
+-- their offsets rise
+abbrev pub AreInOrder : List PlaceEntry → Type 0
+AreInOrder [] = Unit {0}
+AreInOrder (entry ∷ rest) = AllByRecursion (λ later. entry.0 < later.0) rest × AreInOrder rest
+
+-- one of both has them all
+pub record IsOneOf (listed mapped : List PlaceEntry) : Type 0 where
+  pub order : AreInOrder listed
+  pub one : (mapped ≡ []) ⊎ (listed ≡ [])
+
+-- the first so many start at an offset or before it, and the others behind it
+pub record IsDivided (offset count : ℕ) (entries : List PlaceEntry) : Type 0 where
+  pub few : count ≤ length entries
+  pub begun : AllByRecursion (λ entry. entry.0 ≤ offset) (take count entries)
+  pub later : AllByRecursion (λ entry. offset < entry.0) (drop count entries)
+
+-- where a place goes in the list, for a descriptor that starts at an offset
+pub record IsSlot (entries : List PlaceEntry) (offset index : ℕ) : Type 0 where
+  pub few : index ≤ length entries
+  pub goes : (place : Place) → insert entries index (offset, place) ≡ with_place entries offset place
 
 -- ---- the bytes of the descriptors of a table
 

@@ -7,6 +7,7 @@ ghost use Rattle.decl_reader.specs.Blocks.{made_of, table_of, finished_of, with_
 ghost use Rattle.decl_reader.specs.Places.{AllPlaced, IsStacked};
 
 use crate::places::{Place, Places};
+use smallvec::SmallVec;
 use std::alloc::{AllocError, Global};
 use std::marker::Model;
 use type_terms::NodeId;
@@ -23,7 +24,7 @@ pub(crate) struct Finished {
 pub(crate) struct Table {
     places: Places,
     /// The nodes by the indices of the places.
-    nodes: Vec<NodeId>,
+    nodes: SmallVec<NodeId, 8>,
 }
 
 impl Model for Table {
@@ -45,7 +46,7 @@ impl Table {
     {
         Table {
             places: Places::new(alloc),
-            nodes: Vec::new(alloc),
+            nodes: SmallVec::new(alloc),
         }
     }
 
@@ -55,7 +56,7 @@ impl Table {
             → option_map (finished_of nodes) result ≡ at (table_of nodes self.now) offset }
         ensures inside { (size : ℕ) → AllInside size self.now → IfSome result (λ finished. finished.node < size) }
     {
-        made_at(&self.places, &self.nodes, offset)
+        made_at(&self.places, self.nodes.as_slice(), offset)
     }
 
     /// The first byte from the offset on that one of the descriptors has, or else the limit. It takes two look-ups.
