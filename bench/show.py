@@ -120,4 +120,5 @@ def main():
         print(f"ratio to {what}: median {statistics.median(ratios):.1f}, least {min(ratios):.1f}, greatest {max(ratios):.1f}")
 
 
-main()
+if __name__ == "__main__":
+    main()

@@ -4,7 +4,7 @@ small ones that sessions of several files are made of.
 
 The descriptions below say what each declaration is; what lays them out follows docs/FORMAT.md and uses nothing of ours.
 
-usage: bench/worked_files.py shapes|every|of_int|of_string|of_int8|of_other > FILE
+usage: bench/worked_files.py shapes|every|of_int|of_string|of_int8|of_other|of_user|of_const|roles > FILE
 """
 import sys
 
@@ -247,6 +247,42 @@ def of_other():
     return file
 
 
+def roles():
+    """package p, whose variables use names of it in roles that they have, and in such as they don't."""
+    file = File("p")
+
+    def at(line, column):
+        return "p.go", line, column
+
+    element = param("E.P")
+    file.declare("C", "C", lambda b: b.pos(at(2, 7)).type(UNTYPED_INT).numbers(6, 2))
+    file.declare("D", "T", lambda b: b.pos(at(3, 6)).type(INT).methods([]))
+    file.declare("E", "U", lambda b: b.pos(at(4, 6)).types([element]).type(slice_of(element)).methods([]))
+    file.declare("E.P", "P", lambda b: b.pos(at(4, 8)).numbers(0).type(ANY))
+    uses = [
+        ("A", named("C")), ("B", named("E")), ("F", instance([INT, INT], named("E"))), ("G", instance([INT], named("D"))),
+        ("H", alias("D")), ("I", param("D")), ("J", named("E.P")), ("K", instance([INT], named("E"))),
+        ("L", map_of(named("X"), named("D"))),
+    ]
+    for line, (name, of_type) in enumerate(uses, 5):
+        file.declare(name, "V", lambda b: b.pos(at(line, 5)).type(of_type))
+    return file
+
+
+def of_user():
+    """package p with `type T int` and `var V T`."""
+    file = of("T", INT)
+    file.declare("V", "V", lambda b: b.pos(("p.go", 3, 5)).type(named("T")))
+    return file
+
+
+def of_const():
+    """package p with `const T = 1`."""
+    file = File("p")
+    file.declare("T", "C", lambda b: b.pos(("p.go", 2, 7)).type(UNTYPED_INT).numbers(6, 2))
+    return file
+
+
 FILES = {
     "shapes": shapes,
     "every": every,
@@ -254,6 +290,9 @@ FILES = {
     "of_string": lambda: of("T", STRING),
     "of_int8": lambda: of("D", INT8),
     "of_other": of_other,
+    "of_user": of_user,
+    "of_const": of_const,
+    "roles": roles,
 }
 
 if __name__ == "__main__":

@@ -4,7 +4,7 @@ use Rattle.std.specs.List.{AllByRecursion}
 use Rattle.std.proofs.lemmas.Bool.{cases_lt, cases_order}
 use Rattle.std.proofs.lemmas.List.{take-append-drop}
 use Rattle.command_words.specs.Texts.{Word, Source, source_word, Lacks, IsSource, Name, name_word, IsName}
-use Rattle.command_words.specs.Forms.{Request, list, show, IsForm, Begins, IsWrongWord, IsFirstWrong}
+use Rattle.command_words.specs.Forms.{Request, list, show, check, IsForm, Begins, IsWrongWord, IsFirstWrong}
 
 -- a path ends at the first sign that no path has, so it is the one that stands there
 one_split : (sign : ℕ) (a b x y : List ℕ) → Lacks sign a → Lacks sign b → a ++ sign ∷ x ≡ b ++ sign ∷ y → (a ≡ b) × (x ≡ y)
@@ -40,10 +40,20 @@ one_list (x ∷ xs) (y ∷ ys) sx sy e =
     let others = one_list xs ys sx.1 sy.1 tails in
     λ i. first i ∷ others i
 
--- the two commands differ by name
+-- the commands differ by name
 pub apart_by_name : (words others : List Word) → codes "list" ∷ words ≡ codes "show" ∷ others → ⊥
 apart_by_name words others e =
     let first : ◌≡◌ {A = ℕ} 108 115 = ap (λ (t : List Word). get_or (get_or t 0 []) 0 0) e in
+    omega arith
+
+pub no_check_lists : (words others : List Word) → codes "list" ∷ words ≡ codes "check" ∷ others → ⊥
+no_check_lists words others e =
+    let first : ◌≡◌ {A = ℕ} 108 99 = ap (λ (t : List Word). get_or (get_or t 0 []) 0 0) e in
+    omega arith
+
+pub no_check_shows : (words others : List Word) → codes "show" ∷ words ≡ codes "check" ∷ others → ⊥
+no_check_shows words others e =
+    let first : ◌≡◌ {A = ℕ} 115 99 = ap (λ (t : List Word). get_or (get_or t 0 []) 0 0) e in
     omega arith
 
 -- no source's word is the mark
@@ -72,6 +82,15 @@ one_shown (x ∷ xs) (y ∷ ys) ms ns sx sy sm sn e =
     let others : xs ≡ ys = more.0 in
     (λ i. first i ∷ others i, more.1)
 
+one_checked : (xs ys : List Source) → AllByRecursion IsSource xs → AllByRecursion IsSource ys → map source_word xs ≡ map source_word ys → xs ≡ ys
+one_checked [] [] sx sy e = refl
+one_checked [] (y ∷ ys) sx sy e = cc
+one_checked (x ∷ xs) [] sx sy e = cc
+one_checked (x ∷ xs) (y ∷ ys) sx sy e =
+    let first = one_source x y sx.0 sy.0 (heads_are _ _ _ _ e) in
+    let others = one_checked xs ys sx.1 sy.1 (tails_are _ _ _ _ e) in
+    λ i. first i ∷ others i
+
 pub one_request : (words : List Word) (a b : Request) → IsForm words a → IsForm words b → a ≡ b
 one_request words (list a) (list b) fa fb =
     let ea = fa.0 in let eb = fb.0 in
@@ -84,6 +103,11 @@ one_request words (show a xs) (show b ys) fa fb =
     let sources : a ≡ b = parts.0 in
     let names : xs ≡ ys = parts.1 in
     λ i. show (sources i) (names i)
+one_request words (list a) (check b) fa fb = absurd (no_check_lists _ _ (sym fa.0 ∙ fb.0))
+one_request words (check a) (list b) fa fb = absurd (no_check_lists _ _ (sym fb.0 ∙ fa.0))
+one_request words (show a xs) (check b) fa fb = absurd (no_check_shows _ _ (sym fa.0 ∙ fb.0))
+one_request words (check a) (show b ys) fa fb = absurd (no_check_shows _ _ (sym fb.0 ∙ fa.0))
+one_request words (check a) (check b) fa fb = ap check (one_checked a b fa.2 fb.2 (tails_are _ _ _ _ (sym fa.0 ∙ fb.0)))
 
 -- a form begins with each front of it
 pub begun : (words : List Word) (k : ℕ) (request : Request) → IsForm words request → Begins (take k words)

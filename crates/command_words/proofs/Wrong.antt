@@ -6,9 +6,9 @@ use Rattle.std.proofs.Math.Seq.{take-append-add}
 use Rattle.std.proofs.lemmas.List.{append_assoc, append-nil, length-append, length-map, length-take, length-drop, take-append-le, take_rest}
 use Rattle.std.proofs.lemmas.Option.{slice_get_within}
 use Rattle.command_words.specs.Texts.{Word, Source, source_word, IsSource, Name, name_word, IsName, divided_name, IsNameWord, IsFirstOther}
-use Rattle.command_words.specs.Forms.{Request, list, show, IsForm, Begins, IsWrongWord}
+use Rattle.command_words.specs.Forms.{Request, list, show, check, IsForm, Begins, IsWrongWord}
 use Rattle.command_words.proofs.Named.{all_spelled, all_sound}
-use Rattle.command_words.proofs.OneReading.{begun, apart_by_name, not_mark, heads_are, tails_are}
+use Rattle.command_words.proofs.OneReading.{begun, apart_by_name, no_check_lists, no_check_shows, not_mark, heads_are, tails_are}
 
 -- a form begins with each front of words with which one begins
 begins_within : (words front behind : List Word) → words ≡ front ++ behind → Begins front → (j : ℕ) → j < length front + 1 → Begins (take j words)
@@ -81,6 +81,11 @@ begins_shown [] sound =
 begins_shown (source ∷ sources) sound =
     (codes "--" ∷ [], show (source ∷ sources) [], (refl, some source sources, sound, tt))
 
+begins_checked : (sources : List Source) → AllByRecursion IsSource sources → Begins (codes "check" ∷ map source_word sources)
+begins_checked [] sound = (source_word example ∷ [], check (example ∷ []), (refl, some example [], (example_sound, tt)))
+begins_checked (source ∷ sources) sound =
+    ([], check (source ∷ sources), (append-nil (codes "check" ∷ map source_word (source ∷ sources)), some source sources, sound))
+
 begins_named : (sources : List Source) (words : List Word) → sources ≢ [] → AllByRecursion IsSource sources → All IsNameWord words
     → Begins (codes "show" ∷ (map source_word sources ++ codes "--" ∷ words))
 begins_named sources words any sound named =
@@ -98,11 +103,14 @@ begins_named sources words any sound named =
 never_empty : (request : Request) → IsForm [] request → ⊥
 never_empty (list source) form = let e = form.0 in cc
 never_empty (show source names) form = let e = form.0 in cc
+never_empty (check sources) form = let e = form.0 in cc
 
 -- each form begins with the name of its command
-named : (name : Word) (more : List Word) (request : Request) → name ≢ codes "list" → name ≢ codes "show" → IsForm (name ∷ more) request → ⊥
-named name more (list source) no_list no_show form = no_list (let e = form.0 in cc)
-named name more (show source names) no_list no_show form = no_show (let e = form.0 in cc)
+named : (name : Word) (more : List Word) (request : Request) → name ≢ codes "list" → name ≢ codes "show" → name ≢ codes "check"
+    → IsForm (name ∷ more) request → ⊥
+named name more (list source) no_list no_show no_check form = no_list (heads_are _ _ _ _ form.0)
+named name more (show source names) no_list no_show no_check form = no_show (heads_are _ _ _ _ form.0)
+named name more (check sources) no_list no_show no_check form = no_check (heads_are _ _ _ _ form.0)
 
 -- a source follows the name
 sourced : (name word : Word) (more : List Word) (request : Request) → ((source : Source) → IsSource source → word ≢ source_word source) → IsForm (name ∷ word ∷ more) request → ⊥
@@ -110,16 +118,22 @@ sourced name word more (list source) differs form = differs source form.1 (let e
 sourced name word more (show [] names) differs form = form.1 refl
 sourced name word more (show (source ∷ sources) names) differs form =
     differs source form.2.0 (heads_are _ _ _ _ (tails_are _ _ _ _ form.0))
+sourced name word more (check []) differs form = form.1 refl
+sourced name word more (check (source ∷ sources)) differs form =
+    differs source form.2.0 (heads_are _ _ _ _ (tails_are _ _ _ _ form.0))
 
 alone : (name : Word) (request : Request) → IsForm (name ∷ []) request → ⊥
 alone name (list source) form = let e = form.0 in cc
 alone name (show [] names) form = form.1 refl
 alone name (show (source ∷ sources) names) form = let e = tails_are _ _ _ _ form.0 in absurd (some _ _ (sym e))
+alone name (check []) form = form.1 refl
+alone name (check (source ∷ sources)) form = let e = tails_are _ _ _ _ form.0 in absurd (some _ _ (sym e))
 
 -- nothing follows the source of a list
 ended : (word other : Word) (more : List Word) (request : Request) → IsForm (codes "list" ∷ word ∷ other ∷ more) request → ⊥
 ended word other more (list source) form = let e = form.0 in cc
 ended word other more (show sources names) form = apart_by_name _ _ form.0
+ended word other more (check sources) form = no_check_lists _ _ form.0
 
 -- a mark follows sources
 ends_unmarked : (sources others : List Source) (behind : List Word) → map source_word sources ≡ map source_word others ++ codes "--" ∷ behind → ⊥
@@ -131,6 +145,7 @@ ends_unmarked (source ∷ sources) (other ∷ others) behind e = ends_unmarked s
 unmarked : (sources : List Source) (request : Request) → IsForm (codes "show" ∷ map source_word sources) request → ⊥
 unmarked sources (list source) form = apart_by_name _ _ (sym form.0)
 unmarked sources (show others names) form = ends_unmarked sources others (map name_word names) (tails_are _ _ _ _ form.0)
+unmarked sources (check others) form = no_check_shows _ _ form.0
 
 goes_unmarked : (sources others : List Source) (mark : Word) (more behind : List Word)
     → AllByRecursion IsSource others
@@ -151,6 +166,25 @@ marked : (sources : List Source) (mark : Word) (more : List Word) (request : Req
 marked sources mark more (list source) other differs form = apart_by_name _ _ (sym form.0)
 marked sources mark more (show others names) other differs form =
     goes_unmarked sources others mark more (map name_word names) form.2 other differs (tails_are _ _ _ _ form.0)
+marked sources mark more (check others) other differs form = no_check_shows _ _ form.0
+
+-- behind the sources of `check` nothing but a source follows
+sources_only : (sources others : List Source) (word : Word) (more : List Word) → AllByRecursion IsSource others
+    → ((source : Source) → IsSource source → word ≢ source_word source)
+    → map source_word sources ++ word ∷ more ≡ map source_word others
+    → ⊥
+sources_only [] [] word more sound other e = some _ _ e
+sources_only [] (o ∷ others) word more sound other e = other o sound.0 (heads_are _ _ _ _ e)
+sources_only (source ∷ sources) [] word more sound other e = some _ _ e
+sources_only (source ∷ sources) (o ∷ others) word more sound other e = sources_only sources others word more sound.1 other (tails_are _ _ _ _ e)
+
+followed : (sources : List Source) (word : Word) (more : List Word) (request : Request)
+    → ((source : Source) → IsSource source → word ≢ source_word source)
+    → IsForm (codes "check" ∷ (map source_word sources ++ word ∷ more)) request
+    → ⊥
+followed sources word more (list source) other form = no_check_lists _ _ (sym form.0)
+followed sources word more (show others names) other form = no_check_shows _ _ (sym form.0)
+followed sources word more (check others) other form = sources_only sources others word more form.2 other (tails_are _ _ _ _ form.0)
 
 -- and names only
 among : (names : List Name) (front : List Word) (other : Word) (behind : List Word) → ((name : Name) → IsName name → other ≢ name_word name)
@@ -174,12 +208,13 @@ unnamed sources front other behind (list source) differs form = apart_by_name _ 
 unnamed sources front other behind (show others names) differs form =
     among names front other behind differs form.3
     (behind_mark sources others (front ++ other ∷ behind) (map name_word names) (tails_are _ _ _ _ form.0))
+unnamed sources front other behind (check others) differs form = no_check_shows _ _ form.0
 
 pub wrong_empty : IsWrongWord [] 1
 wrong_empty = wrong_after [] begins_none never_empty
 
-pub wrong_name : (name : Word) (more : List Word) → name ≢ codes "list" → name ≢ codes "show" → IsWrongWord (name ∷ more) 1
-wrong_name name more no_list no_show = wrong_at [] name more begins_none (λ behind request. named name behind request no_list no_show)
+pub wrong_name : (name : Word) (more : List Word) → name ≢ codes "list" → name ≢ codes "show" → name ≢ codes "check" → IsWrongWord (name ∷ more) 1
+wrong_name name more no_list no_show no_check = wrong_at [] name more begins_none (λ behind request. named name behind request no_list no_show no_check)
 
 pub wrong_alone : (name : Word) → Begins (name ∷ []) → IsWrongWord (name ∷ []) 2
 wrong_alone name begins = wrong_after (name ∷ []) begins (alone name)
@@ -190,6 +225,15 @@ wrong_source name begins word more differs = wrong_at (name ∷ []) word more be
 pub wrong_more : (source : Source) (other : Word) (more : List Word) → IsSource source → IsWrongWord (codes "list" ∷ source_word source ∷ other ∷ more) 3
 wrong_more source other more sound =
     wrong_at (codes "list" ∷ source_word source ∷ []) other more (begins_listed source sound) (λ behind request. ended (source_word source) other behind request)
+
+wrong_followed : (sources : List Source) (word : Word) (more : List Word) → AllByRecursion IsSource sources
+    → ((source : Source) → IsSource source → word ≢ source_word source)
+    → IsWrongWord (codes "check" ∷ (map source_word sources ++ word ∷ more)) (length sources + 2)
+wrong_followed sources word more sound other =
+    let number : length (codes "check" ∷ map source_word sources) + 1 ≡ length sources + 2 = omega (arith, length-map sources source_word) in
+    subst (IsWrongWord (codes "check" ∷ (map source_word sources ++ word ∷ more))) number
+    (wrong_at (codes "check" ∷ map source_word sources) word more (begins_checked sources sound)
+    (λ behind request. followed sources word behind request other))
 
 -- the number of the word behind so many sources
 number_behind : (sources : List Source) → length (codes "show" ∷ map source_word sources) + 1 ≡ length sources + 2
@@ -252,8 +296,8 @@ module _ {X : Type 0} (text : X → Word) where
   pub wrong_in_none : (words : List X) → length words < 1 → IsWrongWord (map text words) 1
   wrong_in_none words h = subst (λ t. IsWrongWord t 1) (sym (nothing words h)) wrong_empty
 
-  pub wrong_in_name : (words : List X) (word : X) → 1 ≤ length words → word ≡ get_or words 0 word → text word ≢ codes "list" → text word ≢ codes "show" → IsWrongWord (map text words) 1
-  wrong_in_name words word h is no_list no_show = subst (λ t. IsWrongWord t 1) (sym (headed words word h is)) (wrong_name (text word) _ no_list no_show)
+  pub wrong_in_name : (words : List X) (word : X) → 1 ≤ length words → word ≡ get_or words 0 word → text word ≢ codes "list" → text word ≢ codes "show" → text word ≢ codes "check" → IsWrongWord (map text words) 1
+  wrong_in_name words word h is no_list no_show no_check = subst (λ t. IsWrongWord t 1) (sym (headed words word h is)) (wrong_name (text word) _ no_list no_show no_check)
 
   pub wrong_in_alone : (name : Word) → Begins (name ∷ []) → (words : List X) → length words < 1 → IsWrongWord (name ∷ map text words) 2
   wrong_in_alone name begins words h = subst (λ t. IsWrongWord (name ∷ t) 2) (sym (nothing words h)) (wrong_alone name begins)
@@ -293,6 +337,40 @@ module _ {X : Type 0} (text : X → Word) where
         let all : map text words ≡ map source_word sources =
         parted ∙ ap (λ t. map source_word sources ++ t) (nothing rest none) ∙ append-nil (map source_word sources) in
         subst (λ t. IsWrongWord (codes "show" ∷ t) (length sources + 2)) (sym all) (wrong_unmarked sources sound)
+
+    -- the words of `check`
+    ends_there : length rest < 1 → map text words ≡ map source_word sources
+    ends_there none = parted ∙ ap (λ t. map source_word sources ++ t) (nothing rest none) ∙ append-nil (map source_word sources)
+
+    pub wrong_in_followed : 1 ≤ length rest → ((word : Word) (more : List Word) → map text rest ≡ word ∷ more → (source : Source) → IsSource source → word ≢ source_word source)
+        → IsWrongWord (codes "check" ∷ map text words) (length sources + 2)
+    wrong_in_followed some other = go rest some parted other
+      where
+        go : (rest : List X) → 1 ≤ length rest → map text words ≡ map source_word sources ++ map text rest
+            → ((word : Word) (more : List Word) → map text rest ≡ word ∷ more → (source : Source) → IsSource source → word ≢ source_word source)
+            → IsWrongWord (codes "check" ∷ map text words) (length sources + 2)
+        go [] some is other = absurd (omega arith)
+        go (x ∷ xs) some is other =
+            subst (λ t. IsWrongWord (codes "check" ∷ t) (length sources + 2)) (sym is)
+            (wrong_followed sources (text x) (map text xs) sound (other (text x) (map text xs) refl))
+
+    pub wrong_in_unchecked : length sources ≡ 0 → ((word : Word) (more : List Word) → map text rest ≡ word ∷ more → (source : Source) → IsSource source → word ≢ source_word source)
+        → IsWrongWord (codes "check" ∷ map text words) (length sources + 2)
+    wrong_in_unchecked bare other =
+        subst (λ n. IsWrongWord (codes "check" ∷ map text words) (n + 2)) (sym bare)
+        (subst (λ t. IsWrongWord (codes "check" ∷ t) 2) (sym (parted ∙ ap (λ t. t ++ map text rest) (no_words sources bare))) (by (map text rest) other))
+      where
+        no_words : (sources : List Source) → length sources ≡ 0 → map source_word sources ≡ []
+        no_words [] e = refl
+        no_words (source ∷ sources) e = absurd (omega (arith, e))
+
+        by : (rest : List Word) → ((word : Word) (more : List Word) → rest ≡ word ∷ more → (source : Source) → IsSource source → word ≢ source_word source)
+            → IsWrongWord (codes "check" ∷ rest) 2
+        by [] other = wrong_alone (codes "check") (begins_checked [] tt)
+        by (word ∷ more) other = wrong_source (codes "check") (begins_checked [] tt) word more (other word more refl)
+
+    pub form_in_checked : length rest < 1 → sources ≢ [] → IsForm (codes "check" ∷ map text words) (check sources)
+    form_in_checked none any = (ap (λ t. codes "check" ∷ t) (ends_there none), any, sound)
 
     module _ (mark : X) (there : 1 ≤ length rest) (is_mark : mark ≡ get_or rest 0 mark) where
       marked_are : map text words ≡ map source_word sources ++ text mark ∷ map text (behind rest)

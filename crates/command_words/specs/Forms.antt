@@ -10,11 +10,13 @@ use Rattle.command_words.specs.declared.names.NameWord.{NameWord}
 use Rattle.command_words.specs.declared.names.NameWords.{NameWords}
 use Rattle.command_words.specs.declared.commands.Command.{Command}
 use Rattle.command_words.specs.declared.commands.Command.TheVariants.{List as ListCommand, Show as ShowCommand}
+use Rattle.command_words.specs.declared.commands.Command.TheVariants.{Check as CheckCommand}
 
 -- what a command line asks for
 pub data Request : Type 0 where
   list : Source → Request
   show : List Source → List Name → Request
+  check : List Source → Request
 
 -- The forms of the command line, one case for each command.
 abbrev pub IsForm : List Word → Request → Type 0
@@ -22,6 +24,8 @@ IsForm words (list source) = (words ≡ codes "list" ∷ source_word source ∷ 
 IsForm words (show sources names) =
     (words ≡ codes "show" ∷ (map source_word sources ++ codes "--" ∷ map name_word names)) × (sources ≢ [])
     × AllByRecursion IsSource sources × AllByRecursion IsName names
+IsForm words (check sources) =
+    (words ≡ codes "check" ∷ map source_word sources) × (sources ≢ []) × AllByRecursion IsSource sources
 
 -- a form begins with these words
 abbrev pub Begins : List Word → Type 0
@@ -61,8 +65,10 @@ names_of names = map divided_name (map string_bytes names.words.now)
 abbrev pub request_of : Command → Request
 request_of (ListCommand source) = list (source_of source)
 request_of (ShowCommand sources names) = show (sources_of sources) (names_of names)
+request_of (CheckCommand sources) = check (sources_of sources)
 
 -- the label of its one source is the word that spells it
 abbrev pub IsLabelled : Command → Type 0
 IsLabelled (ListCommand source) = source.label.now ≡ source_word (source_of source)
 IsLabelled (ShowCommand sources names) = Unit {0}
+IsLabelled (CheckCommand sources) = Unit {0}

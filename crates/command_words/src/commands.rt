@@ -15,6 +15,8 @@ pub enum Command<'a> {
         sources: SourceWords<'a>,
         names: NameWords<'a>,
     },
+    /// To check all declarations of some sources.
+    Check(SourceWords<'a>),
 }
 
 /// The number of the first wrong word, from 1: no form begins with the words up to it. It is one more than the
@@ -36,6 +38,7 @@ pub fn read_command(words: &[String]) -> Result<Command<'_>, WrongWord>
     match name.as_str() {
         "list" => read_list(rest),
         "show" => read_show(rest),
+        "check" => read_check(rest),
         _ => Err(WrongWord { number: 1 }),
     }
 }
@@ -90,5 +93,23 @@ fn read_show(rest: &[String]) -> Result<Command<'_>, WrongWord>
         Err(k) => Err(WrongWord {
             number: number + 1 + k,
         }),
+    }
+}
+
+// Reads the words after the name of `check`: sources.
+fn read_check(rest: &[String]) -> Result<Command<'_>, WrongWord>
+    ensures found { IfOk result (λ command. IsForm (codes "check" ∷ map string_bytes rest.now) (request_of command)) }
+    ensures labelled { IfOk result IsLabelled }
+    ensures wrong { IfErr result (λ wrong. IsWrongWord (codes "check" ∷ map string_bytes rest.now) wrong.number) }
+{
+    let (sources, after) = SourceWords::leading(rest);
+    let count = sources.len();
+    let number = count + 2;
+    if count == 0 {
+        return Err(WrongWord { number });
+    }
+    match after {
+        [] => Ok(Command::Check(sources)),
+        [_, ..] => Err(WrongWord { number }),
     }
 }

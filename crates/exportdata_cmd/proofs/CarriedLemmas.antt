@@ -1,21 +1,18 @@
 -- From what the steps of a run leave to how it ends.
-use Rattle.std.proofs.Common.{◌≡◌, ◌++◌, ◌≢◌, ℕ, ◌⊎◌, inl, inr, List, [], take, Option, IsSome, Result, Ok, Err, refl}
+use Rattle.std.proofs.Common.{◌≡◌, ◌≢◌, ℕ, ◌⊎◌, inl, inr, List, [], take, Option, IsSome, Result, Ok, Err, refl}
 use Rattle.std.proofs.Common.{sym, ◌∙◌, ap, subst}
-use Rattle.std.specs.Prelude.{codes}
 use Rattle.std.specs.String.{string_bytes}
 use Rattle.outside.specs.Counts.{Rose}
 use Rattle.outside.specs.Files.{Held}
 use Rattle.outside.specs.Sinks.{SinkState, Wrote}
 use Rattle.command_words.specs.Texts.{Word}
-use Rattle.command_words.specs.Forms.{Request, list, show, IsForm, IsWrongWord}
-use Rattle.wire_bytes.specs.FaultText.{fault_text}
-use Rattle.decl_text.specs.Printed.{printed}
+use Rattle.command_words.specs.Forms.{Request, IsForm, IsWrongWord}
 use Rattle.session_files.specs.Sessions.{Opened}
 use Rattle.session_files.specs.Loading.{Word as FileWord, Refusal, too_many_files, too_large, missing, failed, damaged, IsRefused, IsCause}
 use Rattle.session_files.specs.declared.loading.LoadError.{LoadError}
 use Rattle.session_files.specs.declared.loading.LoadError.TheVariants as faults
 use Rattle.session_files.proofs.LoadLaws.{refused_settled, IsFailed}
-use Rattle.exportdata_cmd.specs.Printed.{Line, line}
+use Rattle.exportdata_cmd.specs.Printed.{Line}
 use Rattle.exportdata_cmd.specs.Endings.{Ending, output_end, end_of}
 use Rattle.exportdata_cmd.specs.Sources.{files_asked, refusal_end, load_end, IsRefusalEnd}
 use Rattle.exportdata_cmd.specs.Due.{Yields, Due}
@@ -107,11 +104,9 @@ module _ (words : List Word) (held : Option Held) (before after : ℕ) (out out_
     outgrown_ends : (request : Request) → IsLoaded words held request files
         → Halted files request LimitNodes out out_after
         → Owes words held before after LimitNodes out out_after
-    outgrown_ends (list source) here (many, wrote) = absurd many
-    outgrown_ends (show sources names) here (many, wrote) =
+    outgrown_ends request here (many, wrote) =
         let outgrown : IsOutgrown words held = record {
-          sources = sources;
-          names = names;
+          request = request;
           files = files;
           asked = here.asked;
           loaded = here.loaded;

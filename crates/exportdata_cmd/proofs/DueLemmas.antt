@@ -2,7 +2,7 @@
 use Rattle.std.proofs.Common.{◌≡◌, ◌⊎◌, inl, inr, ℕ, List, Some, Result, Ok, Err, sym, ◌∙◌, ap, subst}
 use Rattle.outside.specs.Files.{Held}
 use Rattle.command_words.specs.Texts.{Word}
-use Rattle.command_words.specs.Forms.{Request, list, show}
+use Rattle.command_words.specs.Forms.{Request, list, show, check}
 use Rattle.command_words.proofs.OneReading.{one_request, one_wrong_word, apart}
 use Rattle.session_files.specs.Sessions.{Opened}
 use Rattle.session_files.specs.Loading.{Refusal}
@@ -14,6 +14,7 @@ use Rattle.exportdata_cmd.specs.Showing.{names_asked}
 use Rattle.exportdata_cmd.specs.Due.{Asks, Yields, DueOf, DueFor, Due}
 use Rattle.exportdata_cmd.specs.declared.exits.Status.TheVariants.{Done, Refused}
 use Rattle.exportdata_cmd.proofs.ShowingLemmas.{one_shown, shown_either}
+use Rattle.exportdata_cmd.proofs.CheckingLemmas.{checked_either}
 
 -- words ask for one thing, or have one wrong word
 pub one_asking : (words : List Word) (a b : Result Request ℕ) → Asks words a → Asks words b → a ≡ b
@@ -31,11 +32,18 @@ yields_either files (show sources names) due is =
       | inl e ↦ inl (status ∙ e)
       | inr e ↦ inr (status ∙ e)
     ]
+yields_either files (check sources) due is =
+    let status = ap (λ end. end.status) is in
+    elim (checked_either files files) as (λ _. (due.status ≡ Done) ⊎ (due.status ≡ Refused)) [
+      | inl e ↦ inl (status ∙ e)
+      | inr e ↦ inr (status ∙ e)
+    ]
 
 one_yield : (files : List Opened) (request : Request) (a b : Ending) → Yields files request a → Yields files request b
     → a ≡ b
 one_yield files (list source) a b x y = x ∙ sym y
 one_yield files (show sources names) a b x y = one_shown files (names_asked names) a b x y
+one_yield files (check sources) a b x y = x ∙ sym y
 
 one_due_of : (request : Request) (r : Result (List Opened) Refusal) (a b : Ending) → DueOf request r a → DueOf request r b
     → a ≡ b

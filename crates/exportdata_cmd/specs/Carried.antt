@@ -4,15 +4,14 @@ use Rattle.std.specs.List.{concat}
 use Rattle.outside.specs.Files.{Held}
 use Rattle.outside.specs.Sinks.{SinkState, Wrote, WroteSome}
 use Rattle.command_words.specs.Texts.{Word}
-use Rattle.command_words.specs.Forms.{Request, list, show, IsForm}
+use Rattle.command_words.specs.Forms.{Request, IsForm}
 use Rattle.session_files.specs.Sessions.{Opened}
 use Rattle.session_files.specs.Loading.{Loads}
 use Rattle.exportdata_cmd.specs.Printed.{Line}
 use Rattle.exportdata_cmd.specs.Endings.{Ending, output_end, no_memory_end, end_of}
 use Rattle.exportdata_cmd.specs.Sources.{files_asked}
-use Rattle.exportdata_cmd.specs.Showing.{names_asked, AreTooMany}
 use Rattle.exportdata_cmd.specs.Due.{Yields}
-use Rattle.exportdata_cmd.specs.Running.{AreFirstDue, MayEnd}
+use Rattle.exportdata_cmd.specs.Running.{AreFirstDue, Outgrows, MayEnd}
 use Rattle.exportdata_cmd.specs.declared.exits.Status.{Status}
 use Rattle.exportdata_cmd.specs.declared.exits.Status.TheVariants.{Output as OutputStatus}
 use Rattle.exportdata_cmd.specs.declared.error_line.ErrorLine.{ErrorLine}
@@ -32,11 +31,6 @@ abbrev pub Broken : List Opened → Request → SinkState → SinkState → Type
 Broken files request before after =
     (status : Status) × (lines : List Line) × Yields files request (output_end status lines)
     × WroteSome before after (concat lines)
-
--- the types that come with what is asked for have too many nodes
-abbrev pub Outgrows : List Opened → Request → Type 0
-Outgrows files (list source) = ⊥
-Outgrows files (show sources names) = AreTooMany files (names_asked names)
 
 -- memory is wanting after the first lines, or types have too many nodes and nothing was put
 abbrev pub Halted : List Opened → Request → ErrorLine → SinkState → SinkState → Type 0

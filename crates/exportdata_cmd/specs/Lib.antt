@@ -4,6 +4,7 @@ pub mod Endings
 pub mod Sources
 pub mod Listing
 pub mod Showing
+pub mod Checking
 pub mod Due
 pub mod Running
 pub mod Putting

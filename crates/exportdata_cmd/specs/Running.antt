@@ -1,17 +1,17 @@
 -- How a run ends: as is due, or otherwise for a cause.
 use Rattle.std.specs.Prelude.{◌≡◌, ℕ, ◌⊎◌, List, [], take, Option, Ok}
 use Rattle.std.specs.List.{concat}
-use Rattle.outside.specs.Counts.{Rose}
 use Rattle.outside.specs.Files.{Held}
 use Rattle.outside.specs.Sinks.{SinkState, Wrote, WroteSome}
-use Rattle.command_words.specs.Texts.{Word, Source, Name}
-use Rattle.command_words.specs.Forms.{Request, show, IsForm, IsFirstWrong}
+use Rattle.command_words.specs.Texts.{Word}
+use Rattle.command_words.specs.Forms.{Request, list, show, check, IsForm, IsFirstWrong}
 use Rattle.session_files.specs.Sessions.{Opened}
 use Rattle.session_files.specs.Loading.{failed, IsRefused, Loads}
 use Rattle.exportdata_cmd.specs.Printed.{Line}
 use Rattle.exportdata_cmd.specs.Endings.{Ending, wrong_word_end, cannot_read_end, limit_nodes_end, no_memory_end}
 use Rattle.exportdata_cmd.specs.Sources.{files_asked}
 use Rattle.exportdata_cmd.specs.Showing.{names_asked, AreTooMany}
+use Rattle.exportdata_cmd.specs.Checking.{AreTooManyListed}
 use Rattle.exportdata_cmd.specs.Due.{Due}
 use Rattle.exportdata_cmd.specs.declared.exits.Status.{Status}
 use Rattle.exportdata_cmd.specs.declared.exits.Status.TheVariants.{Memory, Limit}
@@ -34,15 +34,19 @@ pub record IsUnread (words : List Word) (held : Option Held) (before after : ℕ
   pub refused : IsRefused held before after (files_asked request) (failed file)
   pub shown : end ≡ cannot_read_end file
 
--- The words ask to show names of files that are taken in, and the types that come with the names are more than the
--- nodes that a command may have.
+-- the types that come with what is asked for are more than the nodes that a command may have
+abbrev pub Outgrows : List Opened → Request → Type 0
+Outgrows files (list source) = ⊥
+Outgrows files (show sources names) = AreTooMany files (names_asked names)
+Outgrows files (check sources) = AreTooManyListed files
+
+-- The words ask something of files that are taken in, and the types that come with it are too many.
 pub record IsOutgrown (words : List Word) (held : Option Held) : Type 0 where
-  pub sources : List Source
-  pub names : List Name
+  pub request : Request
   pub files : List Opened
-  pub asked : IsForm words (show sources names)
-  pub loaded : Loads held (files_asked (show sources names)) (Ok files)
-  pub many : AreTooMany files (names_asked names)
+  pub asked : IsForm words request
+  pub loaded : Loads held (files_asked request) (Ok files)
+  pub many : Outgrows files request
 
 -- A run may end so where no sink fails. The count of faults of the files goes from before to after.
 abbrev pub MayEnd : List Word → Option Held → ℕ → ℕ → Ending → Type 0

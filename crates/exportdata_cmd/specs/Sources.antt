@@ -2,7 +2,7 @@
 use Rattle.std.specs.Prelude.{◌≡◌, ◌⊎◌, List, [], ◌∷◌, map}
 use Rattle.std.specs.String.{string_bytes}
 use Rattle.command_words.specs.Texts.{Source, source_word}
-use Rattle.command_words.specs.Forms.{Request, list, show}
+use Rattle.command_words.specs.Forms.{Request, list, show, check}
 use Rattle.name_index.specs.FullFile.{FullFile}
 use Rattle.session_files.specs.Sessions.{Opened}
 use Rattle.session_files.specs.Loading.{Word as FileWord, full}
@@ -16,6 +16,7 @@ use Rattle.exportdata_cmd.specs.Endings.{limit_bytes_end, no_memory_end}
 abbrev pub sources_asked : Request → List Source
 sources_asked (list source) = source ∷ []
 sources_asked (show sources names) = sources
+sources_asked (check sources) = sources
 
 -- the full file that a source names, with the source's word for its label
 abbrev pub file_asked : Source → FileWord

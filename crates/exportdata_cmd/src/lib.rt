@@ -1,6 +1,7 @@
 //! The command: it reads its words, carries them out over files and sinks, and answers with a status.
 #![tactic(auto)]
 
+mod checking;
 mod command;
 mod error_line;
 mod exits;

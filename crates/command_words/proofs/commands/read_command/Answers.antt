@@ -10,3 +10,4 @@ returns-in_default-as_str-clause-wrong c =
     wrong_in_name string_bytes c.args.words.now c.name-item.result c.in-len1-up.len_at_least c.name-item.is
     (rw c.as_str.ensures.value at c.in_default-as_str.not-list)
     (rw c.as_str.ensures.value at c.in_default-as_str.not-show)
+    (rw c.as_str.ensures.value at c.in_default-as_str.not-check)
