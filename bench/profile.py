@@ -19,7 +19,7 @@ import tempfile
 from peer import build, source
 
 # The functions within which a declaration is read, and printed.
-READING = "session_env::session_env::read_counted*"
+READING = "decl_reader::declaration::read_decl*"
 PRINTING = "decl_text::rendering::put_decl*"
 
 # What the functions of reading are for: the first that fits.
