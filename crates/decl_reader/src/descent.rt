@@ -9,9 +9,7 @@ ghost use Rattle.type_terms.specs.Trees.{Tree, tree_of};
 ghost use Rattle.decl_spelling.specs.Tables.{at};
 ghost use Rattle.decl_spelling.specs.Codes.{basic_of};
 ghost use Rattle.decl_spelling.specs.Descent.{named_at as renamed};
-ghost use Rattle.decl_spelling.specs.Reading.{start};
-ghost use Rattle.decl_spelling.specs.Sections.{HoldsBytes, window};
-ghost use Rattle.block_reader.specs.Calls.{ahead_of, sections_of};
+ghost use Rattle.block_reader.specs.Calls.{sections_of};
 ghost use Rattle.block_reader.specs.Parts.{flat_spelled};
 ghost use Rattle.decl_reader.specs.Meant.{IsGenericFlat};
 ghost use Rattle.decl_reader.specs.Places.{HasRoom};
@@ -29,8 +27,7 @@ use crate::type_off::TypeOff;
 use block_reader::{Block, Flat, basic_of, read_flat};
 use decl_spelling::{FIRST_DESCRIPTOR, Mention};
 use file_parts::Parts;
-use std::alloc::{AllocError, Global};
-use std::mem::replace;
+use std::alloc::AllocError;
 use std::sync::ledger::Ledger;
 use type_terms::Node;
 use wire_bytes::{ByteFault, ReadFault};
@@ -63,22 +60,14 @@ impl<L: Ledger> Reading<'_, L> {
             (resolve_types (sections_of parts.now) holder mentions.now (known parts.now self.old)) }
         ensures goes_on { GoesOn parts.now self.old self.new }
     {
-        let mut spare = Vec::new(self.alloc);
         for mention in mentions {
-            self.read_type(parts, holder, *mention, &mut spare)?;
+            self.read_type(parts, holder, *mention)?;
         }
         Ok(())
     }
 
-    /// Reads the type of a mention, with all that it reaches. A list that isn't needed any more goes to `spare`, and is
-    /// used again.
-    fn read_type(
-        &mut self,
-        parts: &Parts<'_>,
-        holder: u64,
-        named: Mention,
-        spare: &mut Vec<Mention>,
-    ) -> Result<(), ReadFault>
+    /// Reads the type of a mention, with all that it reaches.
+    fn read_type(&mut self, parts: &Parts<'_>, holder: u64, named: Mention) -> Result<(), ReadFault>
         requires sections { IsOfFile parts.now }
         requires ready { IsReadyFor parts.now self.old }
         requires within { holder ≤ parts.now.body_len }
@@ -86,19 +75,14 @@ impl<L: Ledger> Reading<'_, L> {
             (resolve_type (sections_of parts.now) holder named (known parts.now self.old)) }
         ensures goes_on { GoesOn parts.now self.old self.new }
     {
-        match self.begin(parts, holder, named, spare)? {
-            Some(first) => self.read_open(parts, first, spare),
+        match self.begin(parts, holder, named)? {
+            Some(first) => self.read_open(parts, first),
             None => Ok(()),
         }
     }
 
     /// Reads an open descriptor to its end, with all that it reaches.
-    fn read_open(
-        &mut self,
-        parts: &Parts<'_>,
-        first: Open,
-        spare: &mut Vec<Mention>,
-    ) -> Result<(), ReadFault>
+    fn read_open(&mut self, parts: &Parts<'_>, first: Open) -> Result<(), ReadFault>
         requires sections { IsOfFile parts.now }
         requires ready { IsReadyFor parts.now self.old }
         requires first { IsOpen (sections_of parts.now) (known parts.now self.old) first }
@@ -111,7 +95,7 @@ impl<L: Ledger> Reading<'_, L> {
         loop {
             if current.known < current.mentions.len() {
                 let named = current.mentions[current.known];
-                match self.begin(parts, current.start, named, spare)? {
+                match self.begin(parts, current.start, named)? {
                     None => current.known += 1,
                     Some(inner) => {
                         holders.push(current)?;
@@ -119,7 +103,7 @@ impl<L: Ledger> Reading<'_, L> {
                     }
                 }
             } else {
-                self.close(parts, current, spare)?;
+                self.close(parts, current)?;
                 match holders.pop() {
                     None => return Ok(()),
                     Some(holder) => {
@@ -137,7 +121,6 @@ impl<L: Ledger> Reading<'_, L> {
         parts: &Parts<'_>,
         holder: u64,
         named: Mention,
-        spare: &mut Vec<Mention>,
     ) -> Result<Option<Open>, ReadFault>
         requires sections { IsOfFile parts.now }
         requires ready { IsReadyFor parts.now self.now }
@@ -149,9 +132,7 @@ impl<L: Ledger> Reading<'_, L> {
                 check_basic(parts.version, named)?;
                 Ok(None)
             }
-            TypeOff::At(start) if start < holder => {
-                self.begin_at(parts, holder, named, start, spare)
-            }
+            TypeOff::At(start) if start < holder => self.begin_at(parts, holder, named, start),
             TypeOff::At(_) => Err(ReadFault::Bytes(out_of_range(named))),
         }
     }
@@ -163,7 +144,6 @@ impl<L: Ledger> Reading<'_, L> {
         holder: u64,
         named: Mention,
         start: u64,
-        spare: &mut Vec<Mention>,
     ) -> Result<Option<Open>, ReadFault>
         requires sections { IsOfFile parts.now }
         requires ready { IsReadyFor parts.now self.now }
@@ -183,7 +163,7 @@ impl<L: Ledger> Reading<'_, L> {
                 check_finished(holder, named, place.end, &descriptor.flat)?;
                 Ok(None)
             }
-            None => Ok(Some(self.open_at(parts, holder, named, start, spare)?)),
+            None => Ok(Some(self.open_at(parts, holder, named, start)?)),
         }
     }
 
@@ -194,7 +174,6 @@ impl<L: Ledger> Reading<'_, L> {
         holder: u64,
         named: Mention,
         start: u64,
-        spare: &mut Vec<Mention>,
     ) -> Result<Open, AllocError>
         requires sections { IsOfFile parts.now }
         requires ready { IsReadyFor parts.now self.now }
@@ -205,7 +184,7 @@ impl<L: Ledger> Reading<'_, L> {
         ensures { IfOk result (IsBegun (sections_of parts.now) (known parts.now self.now) holder named) }
     {
         let free = self.free_to(parts, start, holder);
-        let mut block = block_of(self.alloc, parts, start, free, spare);
+        let mut block = Block::new(self.alloc, parts, start, free);
         let own = match read_flat(self.alloc, parts, &mut block) {
             Ok(flat) => Ok((flat, block.cursor.place() as u64 - parts.body_at)),
             Err(ReadFault::Bytes(fault)) => Err(fault),
@@ -221,12 +200,7 @@ impl<L: Ledger> Reading<'_, L> {
     }
 
     /// A descriptor whose types are known joins the finished ones, and is what its holder asks for.
-    fn close(
-        &mut self,
-        parts: &Parts<'_>,
-        block: Open,
-        spare: &mut Vec<Mention>,
-    ) -> Result<(), ReadFault>
+    fn close(&mut self, parts: &Parts<'_>, block: Open) -> Result<(), ReadFault>
         requires ready { IsReadyFor parts.now self.old }
         requires is_open { IsOpen (sections_of parts.now) (known parts.now self.old) block }
         requires all { block.known ≡ length block.mentions.items }
@@ -239,11 +213,9 @@ impl<L: Ledger> Reading<'_, L> {
         let Open {
             start,
             own,
-            mentions,
             named,
             ..
         } = block;
-        *spare = mentions;
         match own {
             Ok((flat, end)) => self.finish(parts, start, named, flat, end),
             Err(fault) => Err(ReadFault::Bytes(named_at(named, fault))),
@@ -283,27 +255,6 @@ impl<L: Ledger> Reading<'_, L> {
             Err(fault) => Err(ReadFault::Bytes(fault)),
         }
     }
-}
-
-/// The bytes of the data section from an offset up to another, as a block that uses a spare list again. It takes no
-/// memory.
-fn block_of<'a>(
-    alloc: Global,
-    parts: &Parts<'a>,
-    from: u64,
-    to: u64,
-    spare: &mut Vec<Mention>,
-) -> Block<'a>
-    requires sections { IsOfFile parts.now }
-    requires order { from ≤ to }
-    requires inside { to ≤ parts.now.body_len }
-    ensures ahead { ahead_of result ≡ start (window (sections_of parts.now) from to) }
-    ensures bytes { HoldsBytes (sections_of parts.now) }
-{
-    let mut block = Block::new(alloc, parts, from, to);
-    block.mentions = replace(spare, Vec::new(alloc));
-    block.mentions.clear();
-    block
 }
 
 /// A predeclared type is there, and is what its holder asks for.
