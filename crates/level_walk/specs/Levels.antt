@@ -1,7 +1,7 @@
 -- Tests of pairs that go level by level. A pair is first made ready (settle). A ready pair leads to the pairs of its
 -- parts, or fails a demand, or has a fault (steps).
-use Rattle.std.specs.Prelude.{◌≡◌, ◌<◌, ◌≤◌, ℕ, List, [], ◌∷◌, Bool, true, false, Result, Ok, Err, Option, Some, None}
-use Rattle.std.specs.List.{AllByRecursion}
+use Rattle.std.specs.Prelude.{◌≡◌, List, [], ◌∷◌, Bool, true, false, Result, Ok, Err, Option, Some, None}
+use Rattle.std.specs.List.{Contains}
 
 -- The first that isn't so, or can't be told, is the answer.
 abbrev pub and_then : {F : Type 0} → Result Bool F → Result Bool F → Result Bool F
@@ -25,14 +25,16 @@ module _ {P Q F : Type 0} (settle : P → Result Q F) (steps : Q → Result (Opt
   by_level test (Err f) = Err f
   by_level test (Ok q) = by_parts test (steps q)
 
-  -- A test that goes level by level, at pairs of one kind. No pair leads to itself: each part is smaller than what it
-  -- is a part of.
-  pub record Levels : Type 0 where
-    pub holds : P → Bool
+  -- All ways from a pair to the pairs of its parts, and on to the parts of these, come to an end.
+  pub data IsFinite : P → Type 0 where
+    is_finite : (p : P)
+        → ((q : Q) (parts : List P) (part : P) → settle p ≡ Ok q → steps q ≡ Ok (Some parts) → Contains parts part
+        → IsFinite part) → IsFinite p
+
+  -- a test that goes level by level, at pairs of which something holds, from which all ways come to an end
+  pub record Levels (holds : P → Type 0) : Type 0 where
     pub test : P → Result Bool F
-    pub size : P → ℕ
-    pub ready_size : Q → ℕ
-    pub level : (p : P) → holds p ≡ true → test p ≡ by_level test (settle p)
-    pub settled : (p : P) (q : Q) → holds p ≡ true → settle p ≡ Ok q → ready_size q ≤ size p
-    pub parts : (p : P) (q : Q) (parts : List P) → holds p ≡ true → settle p ≡ Ok q → steps q ≡ Ok (Some parts)
-        → AllByRecursion (λ part. (holds part ≡ true) × (size part < ready_size q)) parts
+    pub level : (p : P) → holds p → test p ≡ by_level test (settle p)
+    pub parts : (p : P) (q : Q) (parts : List P) (part : P) → holds p → settle p ≡ Ok q → steps q ≡ Ok (Some parts)
+        → Contains parts part → holds part
+    pub finite : (p : P) → holds p → IsFinite p

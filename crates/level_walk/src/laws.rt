@@ -19,6 +19,9 @@ pub trait Tested {
 
     ghost same: { Ready → Ready → Bool };
 
+    /// What holds of the pairs that are tested.
+    ghost holds: { Pair → Type 0 };
+
     /// The pairs of the parts, in order, or none where a demand isn't met.
     ghost steps: { Ready → Result (Option (List Pair)) Fault };
 
@@ -26,11 +29,11 @@ pub trait Tested {
     ghost exact: { (a b : Ready) → same a b ≡ true → a ≡ b };
 }
 
-/// A walk that began at pairs of a kind answers what a test answers that goes level by level there: that each of them
-/// passes, or the first that doesn't, or the first fault.
+/// A walk that began at pairs of which this holds answers what a test answers that goes level by level there: that each
+/// of them passes, or the first that doesn't, or the first fault.
 pub fn answers_as_the_test<T: Tested>()
-    ensures { (levels : Levels T.settle T.steps) (starts due : List T.Pair) (met : List T.Ready)
-        (answer : Result Bool T.Fault) → AllByRecursion (λ p. levels.holds p ≡ true) starts
+    ensures { (levels : Levels T.settle T.steps T.holds) (starts due : List T.Pair) (met : List T.Ready)
+        (answer : Result Bool T.Fault) → AllByRecursion T.holds starts
         → ComesTo T.settle T.same T.steps starts due met → Ends T.settle T.same T.steps due answer
         → passes levels.test starts ≡ answer }
 {}
