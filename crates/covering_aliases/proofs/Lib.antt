@@ -1,0 +1,3 @@
+mod ReplacedLemmas
+mod AliasLemmas
+mod SoundLemmas

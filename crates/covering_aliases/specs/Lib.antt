@@ -1,0 +1,2 @@
+pub mod SoundTypes
+pub mod Covered

@@ -1,0 +1,8 @@
+//! What a type covers that has aliases in it which come to an end.
+#![tactic(auto)]
+
+mod laws;
+
+pub use laws::{
+    an_alias_is_its_right_side, more_right_sides_change_nothing, what_mentions_itself_nowhere_ends,
+};
