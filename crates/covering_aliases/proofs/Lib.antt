@@ -1,3 +1,5 @@
 mod ReplacedLemmas
-mod AliasLemmas
-mod SoundLemmas
+pub mod AliasLemmas
+pub mod SoundLemmas
+pub mod GoodLemmas
+pub mod ExpandingLemmas

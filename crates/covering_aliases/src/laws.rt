@@ -4,8 +4,8 @@ ghost use Rattle.std.specs.Prelude.{◌≡◌, ◌≤◌, ℕ, suc, List, length
 ghost use Rattle.environments.specs.Environments.{declared};
 ghost use Rattle.go_values.specs.declared.qualified.QName.{QName as Name};
 ghost use Rattle.replacement.specs.declared.faults.SetFault.{SetFault};
-ghost use Rattle.replacement.specs.Expansion.{Entries, AreNames, alias_right};
-ghost use Rattle.type_sets.specs.Covering.{Test, alias_alike};
+ghost use Rattle.replacement.specs.Expansion.{Entries, AreNames, alias_right, expanded};
+ghost use Rattle.type_sets.specs.Covering.{Test, alias_alike, identical_to};
 ghost use Rattle.type_sets.specs.TermTests.{fine, no_cycle};
 ghost use Rattle.type_terms.specs.DeclarationRules.{IsProper, IsProperDecl};
 ghost use Rattle.type_terms.specs.Declarations.{Decl};
@@ -34,4 +34,14 @@ pub fn what_mentions_itself_nowhere_ends()
         → ((q : Name) (decl : Decl) → entries q ≡ Some (declared decl) → IsProperDecl decl)
         → (type : Tree) → IsProper type → no_cycle entries names type ≡ fine
         → IsSound (Ends entries (length names)) type }
+{}
+
+/// A type in which no alias mentions itself is identical to what it is expanded to, or has the same fault. Of right sides
+/// one more may stand in one another in what it is expanded to.
+pub fn a_type_is_what_it_is_expanded_to()
+    ensures { (settle : Tree → Result Tree SetFault) (free : Test) (entries : Entries) (names : List Name)
+        → AreNames entries names → ((q : Name) (decl : Decl) → entries q ≡ Some (declared decl) → IsProperDecl decl)
+        → (type : Tree) → IsProper type → no_cycle entries names type ≡ fine
+        → identical_to settle free entries names type
+        ≡ is_given settle free entries (suc (length names)) (expanded entries names type) }
 {}
